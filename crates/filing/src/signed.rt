@@ -1,0 +1,18 @@
+//! A filing that is drawn up and signed: nothing of it changes any more.
+ghost use mathlib.Core.Path.{_≡_};
+use crate::filing::Filing;
+
+/// A signed filing.
+#[derive(Clone, Copy)]
+pub struct Signed {
+    pub(crate) filing: Filing,
+}
+
+impl Signed {
+    /// What is filed.
+    pub fn filing(&self) -> &Filing
+        ensures { λ r. ⌜ now r ≡ now (self .entry) .filing ⌝ }
+    {
+        &self.filing
+    }
+}

@@ -1,0 +1,2 @@
+//! Quantities with their ranges, and how they are rounded.
+pub mod units;
