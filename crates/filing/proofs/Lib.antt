@@ -4,3 +4,4 @@ pub mod Refusing
 pub mod Keeping
 pub mod Adding
 pub mod Growing
+pub mod Soundness

@@ -6,3 +6,4 @@ pub mod Filing
 pub mod Checks
 pub mod Parts
 pub mod Views
+pub mod Sound

@@ -2,6 +2,7 @@
 ghost use mathlib.Core.Path.{_≡_};
 ghost use Rattle.filing.specs.Checks.{heading, adding};
 ghost use Rattle.filing.specs.Filing.{blank as blankFiling};
+ghost use Rattle.filing.specs.Sound.{Sound};
 ghost use Rattle.filing.specs.Views.{fieldsOf, drafted, filed, Wrote, Numbered};
 use crate::faults::FilingFault;
 use crate::fields::HeadFields;
@@ -25,7 +26,8 @@ impl Draft {
 
     /// What is drawn up so far.
     pub fn filing(&self) -> &Filing
-        ensures { λ r. ⌜ now r ≡ now (self .entry) .filing ⌝ }
+        ensures is { λ r. ⌜ now r ≡ now (self .entry) .filing ⌝ }
+        ensures sound { λ r. ⌜ Sound (fieldsOf (now r)) ⌝ }
     {
         &self.filing
     }
