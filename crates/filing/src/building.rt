@@ -8,12 +8,12 @@ use crate::fields::HeadFields;
 use crate::fields::LineFields;
 use crate::filing::Filing;
 use crate::filing::MOST_LINES;
-use crate::sums::attributed_kg;
-use crate::sums::holds;
-use crate::sums::total_kg;
 use crate::kinds::LineKind;
 use crate::parts::Head;
 use crate::parts::Line;
+use crate::sums::attributed_kg;
+use crate::sums::holds;
+use crate::sums::total_kg;
 use quantity::units::Kilograms;
 use quantity::units::Megawatts;
 use quantity::units::Production;
@@ -38,7 +38,15 @@ impl Filing {
     {
         let none = Kilograms { kg: 0 };
         Filing {
-            head: Head { facility: 1, year: 2017, co2: none, ch4: none, n2o: none, sf6: none, captured: none },
+            head: Head {
+                facility: 1,
+                year: 2017,
+                co2: none,
+                ch4: none,
+                n2o: none,
+                sf6: none,
+                captured: none,
+            },
             lines: [blank_line(); 6],
             count: 0,
         }
@@ -53,7 +61,11 @@ impl Filing {
             return Err(FilingFault::Attributed);
         }
         let lines = self.lines;
-        Ok(Filing { head, lines, count: self.count })
+        Ok(Filing {
+            head,
+            lines,
+            count: self.count,
+        })
     }
 
     /// The line that these fields make after those that are there, or the first refusal.
@@ -85,6 +97,10 @@ impl Filing {
         let line = self.checked_line(fields)?;
         let mut lines = self.lines;
         lines[self.count] = line;
-        Ok(Filing { head: self.head, lines, count: self.count + 1 })
+        Ok(Filing {
+            head: self.head,
+            lines,
+            count: self.count + 1,
+        })
     }
 }

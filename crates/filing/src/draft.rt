@@ -21,7 +21,9 @@ impl Draft {
     pub fn blank() -> Draft
         ensures { λ r. ⌜ drafted r ≡ blankFiling ⌝ }
     {
-        Draft { filing: Filing::blank() }
+        Draft {
+            filing: Filing::blank(),
+        }
     }
 
     /// What is drawn up so far.
@@ -36,8 +38,7 @@ impl Draft {
     pub fn set_head(&mut self, fields: HeadFields) -> Result<(), FilingFault>
         ensures { λ r. ⌜ Wrote r (heading (drafted (now (self .entry))) fields) (now (self .entry)) (now (self .exit)) ⌝ }
     {
-        let filing = self.filing.with_head(fields)?;
-        *self = Draft { filing };
+        self.filing = self.filing.with_head(fields)?;
         Ok(())
     }
 
@@ -56,6 +57,8 @@ impl Draft {
     pub fn sign(self) -> Signed
         ensures { λ r. ⌜ filed r ≡ drafted self ⌝ }
     {
-        Signed { filing: self.filing }
+        Signed {
+            filing: self.filing,
+        }
     }
 }

@@ -3,7 +3,7 @@ ghost use mathlib.Core.Path.{_≡_};
 ghost use Rattle.filing.specs.Kinds.{kindNumber, kindOf};
 
 /// Where a line's output-based standard comes from.
-#[derive(Clone, Copy, Debug, PartialEq, Eq)]
+#[derive(Clone, Copy)]
 pub enum LineKind {
     /// The standard is a number that the line states.
     Numerical = 1,

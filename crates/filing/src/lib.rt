@@ -10,3 +10,5 @@ mod ranges;
 mod reading;
 pub mod signed;
 mod sums;
+#[cfg(test)]
+mod tests;

@@ -60,7 +60,15 @@ impl Head {
     pub(crate) fn checked(fields: HeadFields) -> Result<Head, FilingFault>
         ensures { λ r. ⌜ HeadMade fields r ⌝ }
     {
-        let values = [fields.facility, fields.year, fields.co2, fields.ch4, fields.n2o, fields.sf6, fields.captured];
+        let values = [
+            fields.facility,
+            fields.year,
+            fields.co2,
+            fields.ch4,
+            fields.n2o,
+            fields.sf6,
+            fields.captured,
+        ];
         let ranges = head_ranges(&fields);
         if let Some(code) = first_outside(1, &values, &ranges) {
             return Err(FilingFault::Range { code, line: 0 });
@@ -72,7 +80,9 @@ impl Head {
             ch4: Kilograms { kg: fields.ch4 },
             n2o: Kilograms { kg: fields.n2o },
             sf6: Kilograms { kg: fields.sf6 },
-            captured: Kilograms { kg: fields.captured },
+            captured: Kilograms {
+                kg: fields.captured,
+            },
         })
     }
 }
@@ -94,11 +104,22 @@ impl Line {
     }
 
     /// The line with these fields after its kind, if each is in its range; `place` is where it would stand.
-    pub(crate) fn checked(kind: LineKind, fields: LineFields, place: usize) -> Result<Line, FilingFault>
+    pub(crate) fn checked(
+        kind: LineKind,
+        fields: LineFields,
+        place: usize,
+    ) -> Result<Line, FilingFault>
         requires { ⌜ kindOf (fields .kind) ≡ Some kind ⌝ }
         ensures { λ r. ⌜ LineMade kind fields place r ⌝ }
     {
-        let values = [fields.number, fields.production, fields.standard, fields.attributed, fields.added, fields.ratio];
+        let values = [
+            fields.number,
+            fields.production,
+            fields.standard,
+            fields.attributed,
+            fields.added,
+            fields.ratio,
+        ];
         let ranges = line_ranges(kind);
         if let Some(code) = first_outside(22, &values, &ranges) {
             return Err(FilingFault::Range { code, line: place });
@@ -106,9 +127,15 @@ impl Line {
         Ok(Line {
             kind,
             number: fields.number as u16,
-            production: Production { thousandths: fields.production },
-            standard: Standard { ten_thousandths: fields.standard },
-            attributed: Kilograms { kg: fields.attributed },
+            production: Production {
+                thousandths: fields.production,
+            },
+            standard: Standard {
+                ten_thousandths: fields.standard,
+            },
+            attributed: Kilograms {
+                kg: fields.attributed,
+            },
             added: Megawatts { mw: fields.added },
             ratio: fields.ratio as u16,
         })

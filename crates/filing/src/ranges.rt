@@ -13,8 +13,16 @@ pub(crate) struct Range {
     pub most: u64,
 }
 
-const NUMBER: Range = Range { least: 0, most: 65_535 };
-const ATTRIBUTED: Range = Range { least: 0, most: 200_000_000_000 };
+const NUMBER: Range = Range {
+    least: 0,
+    most: 65_535,
+};
+
+const ATTRIBUTED: Range = Range {
+    least: 0,
+    most: 200_000_000_000,
+};
+
 const ABSENT: Range = Range { least: 0, most: 0 };
 
 /// The ranges of a head's fields, codes 1 to 7.
@@ -23,12 +31,30 @@ pub(crate) fn head_ranges(fields: &HeadFields) -> [Range; 7]
 {
     [
         Range { least: 1, most: 4 },
-        Range { least: 2017, most: 2036 },
-        Range { least: 0, most: 100_000_000_000 },
-        Range { least: 0, most: 1_000_000_000 },
-        Range { least: 0, most: 100_000_000 },
-        Range { least: 0, most: 1_000_000 },
-        Range { least: 0, most: fields.co2 },
+        Range {
+            least: 2017,
+            most: 2036,
+        },
+        Range {
+            least: 0,
+            most: 100_000_000_000,
+        },
+        Range {
+            least: 0,
+            most: 1_000_000_000,
+        },
+        Range {
+            least: 0,
+            most: 100_000_000,
+        },
+        Range {
+            least: 0,
+            most: 1_000_000,
+        },
+        Range {
+            least: 0,
+            most: fields.co2,
+        },
     ]
 }
 
@@ -36,17 +62,32 @@ pub(crate) fn head_ranges(fields: &HeadFields) -> [Range; 7]
 pub(crate) fn line_ranges(kind: LineKind) -> [Range; 6]
     ensures { λ r. ⌜ r ≡ lineRanges kind ⌝ }
 {
-    let made = Range { least: 1, most: 100_000_000_000 };
+    let made = Range {
+        least: 1,
+        most: 100_000_000_000,
+    };
     match kind {
         LineKind::Numerical => {
-            let standard = Range { least: 0, most: 10_000_000 };
+            let standard = Range {
+                least: 0,
+                most: 10_000_000,
+            };
             [NUMBER, made, standard, ATTRIBUTED, ABSENT, ABSENT]
         }
         LineKind::Calculated => [NUMBER, made, ABSENT, ATTRIBUTED, ABSENT, ABSENT],
         LineKind::Gaseous => {
-            let generated = Range { least: 0, most: 100_000_000 };
-            let added = Range { least: 0, most: 1_000 };
-            let ratio = Range { least: 0, most: 10_000 };
+            let generated = Range {
+                least: 0,
+                most: 100_000_000,
+            };
+            let added = Range {
+                least: 0,
+                most: 1_000,
+            };
+            let ratio = Range {
+                least: 0,
+                most: 10_000,
+            };
             [NUMBER, generated, ABSENT, ATTRIBUTED, added, ratio]
         }
     }

@@ -2,7 +2,7 @@
 ghost use mathlib.Core.List.{map};
 ghost use mathlib.Core.Path.{_≡_};
 ghost use lib.ListN.{length, take};
-ghost use Rattle.filing.specs.Emissions.{total as totalOf};
+ghost use Rattle.filing.specs.Emissions.{total as totalOf, emissions as emissionsOf};
 ghost use Rattle.filing.specs.Filing.{attributedSum};
 ghost use Rattle.filing.specs.Parts.{headFields, lineFields};
 ghost use Rattle.filing.specs.Views.{fieldsOf};
@@ -12,6 +12,7 @@ use crate::parts::Line;
 use crate::sums::attributed_kg;
 use crate::sums::total_kg;
 use quantity::units::Kilograms;
+use quantity::units::Tonnes;
 
 impl Filing {
     /// The head.
@@ -40,13 +41,24 @@ impl Filing {
     pub fn total(&self) -> Kilograms
         ensures { λ r. ⌜ r .kg ≡ totalOf (fieldsOf (now (self .entry)) .head) ⌝ }
     {
-        Kilograms { kg: total_kg(&self.head) }
+        Kilograms {
+            kg: total_kg(&self.head),
+        }
+    }
+
+    /// The year's emissions: the total in whole tonnes, a half up.
+    pub fn emissions(&self) -> Tonnes
+        ensures { λ r. ⌜ r .tonnes ≡ emissionsOf (fieldsOf (now (self .entry)) .head) ⌝ }
+    {
+        self.total().in_tonnes()
     }
 
     /// The kilograms attributed to the lines together.
     pub fn attributed(&self) -> Kilograms
         ensures { λ r. ⌜ r .kg ≡ attributedSum (fieldsOf (now (self .entry)) .lines) ⌝ }
     {
-        Kilograms { kg: attributed_kg(self.lines()) }
+        Kilograms {
+            kg: attributed_kg(self.lines()),
+        }
     }
 }

@@ -1,0 +1,4 @@
+pub mod Nearest
+pub mod TieRule
+pub mod ThirdFigure
+pub mod ThreeFigures

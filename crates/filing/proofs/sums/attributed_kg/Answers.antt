@@ -6,8 +6,8 @@ use Rattle.filing.proofs.sums.attributed_kg.Needs as need
 
 pub loop-line-again : need.loop-line-again
 loop-line-again c =
-  let e = attributed-more (c .args .lines .now) (c .loop-line .line-index) (c .line-item .result) (record { below = c .loop-line-test .taken; is = c .line-item .is }) in
-  (omega (arith, e), omega (arith, c .line-item .result .attributed .range))
+    let e = attributed-more (c .args .lines .now) (c .loop-line .line-index) (c .line-item .result) (record { below = c .loop-line-test .taken; is = c .line-item .is }) in
+    (omega (arith, e), omega (arith, c .line-item .result .attributed .range))
 
 pub returns : need.returns
 returns c = record {
