@@ -10,6 +10,7 @@ use Rattle.filing.specs.declared.faults.FilingFault.the-variants.{Range, Kind,
 pub data Name : Type 0 where
   code : Name
   line : Name
+  bytes : Name
 
 pub record Told : Type 0 where
   pub number : ℕ
@@ -37,6 +38,7 @@ word Attributed = codes "attributed"
 abbrev pub naming : Name → List ℕ
 naming code = codes " code "
 naming line = codes " line "
+naming bytes = codes " length "
 
 abbrev pub listing : List (Name × ℕ) → List ℕ
 listing [] = []
