@@ -99,10 +99,12 @@ fn expected(step: &[u8], at: usize) -> &'static str {
     if place >= 7 {
         return "a word";
     }
-    match step {
-        b"head" => HEAD[place],
-        b"line" => LINE[place],
-        _ => "a word",
+    if step == b"head" {
+        HEAD[place]
+    } else if step == b"line" {
+        LINE[place]
+    } else {
+        "a word"
     }
 }
 
