@@ -3,3 +3,5 @@ pub mod Runs
 pub mod Digits
 pub mod Row
 pub mod Readings
+pub mod Records
+pub mod Pairs

@@ -5,6 +5,7 @@ pub mod desk;
 pub mod excerpt;
 pub mod lines;
 pub mod numbers;
+pub mod sources;
 pub mod steps;
 #[cfg(test)]
 mod tests;

@@ -114,7 +114,7 @@ fn alone(words: &[&[u8]], step: Step) -> Result<Step, Misread>
     Ok(step)
 }
 
-fn is(word: &[u8], name: &[u8]) -> bool
+pub(crate) fn is(word: &[u8], name: &[u8]) -> bool
     ensures { λ r. ⌜ r ≡ sameBytes (now (word .entry)) (now (name .entry)) ⌝ }
 {
     word == name

@@ -5,6 +5,9 @@ use crate::numbers::NumberFault;
 use crate::numbers::NumberFaultDebug;
 use crate::numbers::NumberFaultPartialEq;
 use crate::numbers::decimal;
+use crate::sources::is_hex;
+use crate::sources::record_word;
+use crate::sources::unhexed;
 use crate::steps::Misread;
 use crate::steps::Step;
 use crate::steps::read_step;
@@ -99,6 +102,33 @@ fn steps(rt: LibcRuntime) -> Result<(), Fail> {
     for (line, expected) in lines {
         let found = words(rt.alloc(), line)?;
         check_eq(outline(read_step(found.as_slice())), expected)?;
+    }
+    Ok(())
+}
+
+#[test]
+fn records(rt: LibcRuntime) -> Result<(), Fail> {
+    let lines: [(&[&[u8]], &[u8]); 4] = [
+        (&[b"sign", b"a"], b"a"),
+        (&[b"sign"], b"none"),
+        (&[b"sign", b"a", b"b"], b"none"),
+        (&[b"file", b"a"], b"none"),
+    ];
+    for (words, expected) in lines {
+        check(record_word(words).unwrap_or(b"none") == expected).note("record_word")?;
+    }
+    let hexes: [(&[u8], bool, &[u8]); 6] = [
+        (b"0x", true, b""),
+        (b"0x4f4246", true, b"OBF"),
+        (b"0x4F4", true, b"none"),
+        (b"0xzz", true, b"none"),
+        (b"4f", false, b"none"),
+        (b"", false, b"none"),
+    ];
+    for (word, begins, expected) in hexes {
+        check_eq(is_hex(word), begins)?;
+        let found = unhexed(rt.alloc(), word)?;
+        check(found.as_deref().unwrap_or(b"none") == expected).note("unhexed")?;
     }
     Ok(())
 }

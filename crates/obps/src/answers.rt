@@ -14,7 +14,7 @@ pub struct Said(pub Answer);
 
 /// A signed filing in one line.
 #[derive(Clone, Copy)]
-struct Summary<'a>(&'a Filing);
+pub struct Summary<'a>(pub &'a Filing);
 
 #[derive(Clone, Copy)]
 struct Entry<'a>(&'a Line);
@@ -44,7 +44,7 @@ impl fmt::Display for Entry<'_> as EntryDisplay {
     }
 }
 
-impl fmt::Display for Summary<'_> as SummaryDisplay {
+pub impl fmt::Display for Summary<'_> as SummaryDisplay {
     fn fmt<W: fmt::Write>(&self, f: &mut fmt::Formatter<W>) -> fmt::Result {
         let head = self.0.head();
         let facility = head.facility;

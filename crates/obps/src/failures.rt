@@ -1,4 +1,6 @@
 //! Why the program ends with status 1.
+use crate::records::RefusedRecord;
+use crate::records::RefusedRecordDisplay;
 use std::alloc::AllocError;
 use std::alloc::Refused;
 use std::fmt;
@@ -13,7 +15,11 @@ pub enum Failure {
     Unreadable(String, io::Error),
     Input(io::Error),
     Output(io::Error),
+    Unwritable(String, io::Error),
     Memory,
+    /// A record is longer than the room that is kept for one.
+    Room,
+    Refused(RefusedRecord),
     /// So many lines of a journal say no step.
     Misread(u64),
 }
@@ -31,6 +37,9 @@ pub impl fmt::Display for Failure as FailureDisplay {
             Failure::Unreadable(path, error) => write!(f, "cannot read '{path}': {error}"),
             Failure::Input(error) => write!(f, "cannot read standard input: {error}"),
             Failure::Output(error) => write!(f, "cannot write the answers: {error}"),
+            Failure::Unwritable(path, error) => write!(f, "cannot write '{path}': {error}"),
+            Failure::Room => write!(f, "a record is too long to be written"),
+            Failure::Refused(record) => write!(f, "{record}"),
             Failure::Memory => write!(f, "out of memory"),
             Failure::Misread(1) => write!(f, "1 line was not understood"),
             Failure::Misread(lines) => write!(f, "{lines} lines were not understood"),

@@ -6,6 +6,9 @@ obps: emissions limits under output-based pricing
 
   obps run JOURNAL     performs a journal and answers each of its lines
   obps run             the same, from standard input
+  obps show FILE       prints the records of a file, up to the first that is refused
+  obps upgrade FILE OUT    writes the records of FILE to OUT in version 3, or,
+                       where one is refused, nothing
   obps help            prints this
 
 A journal is a text file with one step to a line. '#' starts a comment.
@@ -14,6 +17,8 @@ A journal is a text file with one step to a line. '#' starts a comment.
   line KIND NUMBER PRODUCTION STANDARD ATTRIBUTED ADDED RATIO
   blank                starts a new draft
   sign                 signs the draft, and starts a new one
+  sign FILE            takes a signed filing from the record in FILE
+  sign 0xHEX           takes it from the record that is written in hexadecimal
 
 Gases and ATTRIBUTED are in kilograms, PRODUCTION in thousandths of a unit,
 STANDARD in ten-thousandths of a tonne per unit, ADDED in megawatts and RATIO in

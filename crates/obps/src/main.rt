@@ -2,6 +2,7 @@
 mod answers;
 mod failures;
 mod help;
+mod records;
 mod run;
 #[cfg(test)]
 mod tests;
@@ -44,17 +45,48 @@ fn standard_input(rt: &LibcRuntime) -> Result<Vec<u8>, Failure> {
     }
 }
 
+/// The word at a place after the command, by the name that it has in the help.
+fn operand<'a>(words: &'a [String], place: usize) -> Option<&'a str> {
+    match words.get(place) {
+        Some(word) => Some(word.as_str()),
+        None => None,
+    }
+}
+
+fn run_journal(rt: &LibcRuntime, words: &[String]) -> Result<(), Failure> {
+    match operand(words, 1) {
+        Some(path) if words.len() == 2 => run::run(rt, &file(rt, path)?),
+        Some(_) => Err(Failure::Usage("obps run takes one JOURNAL, or none")),
+        None => run::run(rt, &standard_input(rt)?),
+    }
+}
+
+fn show_records(rt: &LibcRuntime, words: &[String]) -> Result<(), Failure> {
+    match operand(words, 1) {
+        Some(path) if words.len() == 2 => records::show(rt, &file(rt, path)?),
+        _ => Err(Failure::Usage("obps show takes one FILE of records")),
+    }
+}
+
+fn upgrade_records(rt: &LibcRuntime, words: &[String]) -> Result<(), Failure> {
+    match (operand(words, 1), operand(words, 2)) {
+        (Some(from), Some(to)) if words.len() == 3 => {
+            let all = records::upgraded(rt.alloc(), &file(rt, from)?)?;
+            records::replace(rt, to, &all)
+        }
+        _ => Err(Failure::Usage("obps upgrade takes a FILE of records and the file OUT to write")),
+    }
+}
+
 fn obey(rt: &LibcRuntime) -> Result<(), Failure> {
     let words = arguments(rt)?;
-    let Some(command) = words.get(0) else {
+    let Some(command) = operand(&words, 0) else {
         return Err(Failure::NoCommand);
     };
-    match command.as_str() {
-        "run" => match words.get(1) {
-            Some(path) if words.len() == 2 => run::run(rt, &file(rt, path.as_str())?),
-            Some(_) => Err(Failure::Usage("obps run takes one JOURNAL, or none")),
-            None => run::run(rt, &standard_input(rt)?),
-        },
+    match command {
+        "run" => run_journal(rt, &words),
+        "show" => show_records(rt, &words),
+        "upgrade" => upgrade_records(rt, &words),
         "help" => help::help(rt),
         other => Err(Failure::UnknownCommand(String::from_str(rt.alloc(), other)?)),
     }

@@ -1,0 +1,11 @@
+pub mod Schemas
+pub mod Bytes
+pub mod Lookups
+pub mod Steps
+pub mod Pasting
+pub mod Inverting
+pub mod Prefixes
+pub mod WriteBack
+pub mod ReadBack
+pub mod Numbered
+pub mod Differing

@@ -1,0 +1,9 @@
+pub mod ReadFaults
+pub mod WriteFaults
+pub mod Table
+pub mod Numbers
+pub mod Fields
+pub mod Reading
+pub mod Answers
+pub mod Writing
+pub mod Laws
