@@ -13,10 +13,12 @@ from pathlib import Path
 APART = {
     'three-figures': 'three_figures_meet', 'unit-from': 'unit_from_is', 'if-touched': 'if_touched_is',
     'lines-in-range': 'lines_all_in_range', 'few-lines': 'few_lines_filed', 'standing-at': 'standing_at_place',
+    'calculated-by': 'calculated_from_years', 'anew-of': 'anew_of_place', 'figures-of': 'figures_of_place',
 }
 
 WORD = re.compile(r"(?<![\w'·-])[^\W\d][\w']*(?:-[\w']+)*", re.U)
 HEAD = re.compile(r"^(?:(?:abbrev|unfoldable|opaque|pub|private) )*(?!use\b|mod\b|record\b|data\b)([^\W\d][\w'-]*)\s*(?:[:({])")
+INNER = re.compile(r"^\s+(?:(?:abbrev|unfoldable|opaque|pub|private) )*([^\W\d][\w'-]*) : ")
 IMPORT = re.compile(r'use (Rattle\.(std|core|logic|native)[\w.\-]*|[a-z]\w*\.[\w.\-]+)\.\{([^}]*)\}')
 
 
@@ -37,10 +39,17 @@ def sources():
 
 
 def main():
-    own, given, library = {}, set(), set()
+    own, given, library, fields = {}, set(), set(), set()
     for path in sources():
         text = path.read_text()
+        record = False
         for line in text.splitlines():
+            if line[:1].strip(): record = line.startswith(('record ', 'pub record '))
+            if path.name not in ('Answers.antt', 'Invariants.antt'):
+                inner = INNER.match(line)
+                if inner and odd(inner.group(1)):
+                    own.setdefault(inner.group(1), set()).add(str(path))
+                    if record: fields.add(inner.group(1))
             head = HEAD.match(line)
             if not head or ':' not in line: continue
             name = head.group(1)
@@ -51,9 +60,11 @@ def main():
             if odd(name): own.setdefault(name, set()).add(str(path))
         for m in IMPORT.finditer(text):
             library |= {w.split(' as ')[0].strip() for w in m.group(3).split(',')}
+    for n in library & set(own): del own[n]
     clash = sorted(n for n in own if n in library)
     new = {n: snake(n) for n in own}
     if '--list' in sys.argv:
+        print('FIELDS', sorted(fields))
         for n in sorted(own): print(n, new[n], 'GIVEN' if n in given else '', 'LIBRARY' if n in clash else '')
         taken = {}
         words = set()
@@ -69,16 +80,16 @@ def main():
         text = path.read_text()
         out = []
         for line in text.splitlines(keepends=True):
-            out.append(respell(line, new, path))
+            out.append(respell(line, new, path, fields))
         done = ''.join(out)
         if done != text: path.write_text(done)
 
 
-def respell(line, new, path):
+def respell(line, new, path, fields):
     def one(m):
         before = line[:m.start()]
-        if before.endswith('.') and not before.endswith('..'): return m.group(0)
         name = m.group(0)
+        if name not in fields and before.endswith('.') and not before.endswith('..'): return name
         if path.name in ('Answers.antt', 'Invariants.antt') and (
                 before.strip() in ('', 'pub', 'abbrev pub') and re.search(r'goal\.' + re.escape(name) + r"(?![\w'-])", line)): return name
         return new.get(name, name)

@@ -117,11 +117,11 @@ differs bs n h =
 pub matches : (bs : List ℕ) (x : ℕ × ℕ × FilingFields) → reading bs ≡ Ok x → Matches bs x.1
 matches bs x h =
     let a = accepted bs x h in
-    let s = schema_of bs a.count a.codes a.count-is a.codes-is in
+    let s = schema_of bs a.count a.codes a.count-is a.codes_is in
     record {
-      version = sym (version_of bs a.version a.version-is) ∙ a.version-good;
+      version = sym (version_of bs a.version a.version_is) ∙ a.version_good;
       row = a.row;
-      is = ap row_of (sym a.version-good) ∙ known_is (row_of (number a.version)) a.row a.row_is;
+      is = ap row_of (sym a.version_good) ∙ known_is (row_of (number a.version)) a.row a.row_is;
       whole = s.0;
       lines = λ i. ap (λ codes. line_at codes i) (sym s.1 ∙ (schema_row bs x a).0);
     }

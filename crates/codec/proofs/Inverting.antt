@@ -52,26 +52,26 @@ part_length at size bs b h =
 -- an accepted record's parts, and what each of them gave
 pub record Accepted (bs : List ℕ) (x : ℕ × ℕ × FilingFields) : Type 0 where
   pub mark : List ℕ
-  pub mark-is : part 0 3 bs ≡ Ok mark
-  pub mark-good : marked mark ≡ Ok tt
+  pub mark_is : part 0 3 bs ≡ Ok mark
+  pub mark_good : marked mark ≡ Ok tt
   pub version : List ℕ
-  pub version-is : part 3 2 bs ≡ Ok version
-  pub version-good : number version ≡ x.1
+  pub version_is : part 3 2 bs ≡ Ok version
+  pub version_good : number version ≡ x.1
   pub row : List ℕ
   pub row_is : known (row_of (number version)) ≡ Ok row
   pub count : List ℕ
   pub count_is : part 5 1 bs ≡ Ok count
   pub codes : List ℕ
-  pub codes-is : part 6 (get_or count 0 0) bs ≡ Ok codes
-  pub codes-good : matching (first_off 1 codes row) ≡ Ok tt
+  pub codes_is : part 6 (get_or count 0 0) bs ≡ Ok codes
+  pub codes_good : matching (first_off 1 codes row) ≡ Ok tt
   pub head : List ℕ
-  pub head-is : part (head_at row) (8 * length (head_codes row)) bs ≡ Ok head
+  pub head_is : part (head_at row) (8 * length (head_codes row)) bs ≡ Ok head
   pub start : FilingFields
-  pub head-good : heading blank (head_of (head_codes row) head) ≡ Ok start
+  pub head_good : heading blank (head_of (head_codes row) head) ≡ Ok start
   pub lines : List ℕ
-  pub lines-is : part (count_at row) 1 bs ≡ Ok lines
+  pub lines_is : part (count_at row) 1 bs ≡ Ok lines
   pub many : ℕ
-  pub lines-good : few_lines (get_or lines 0 0) ≡ Ok many
+  pub lines_good : few_lines (get_or lines 0 0) ≡ Ok many
   pub rest : lined (line_codes row) many (count_at row + 1) bs start ≡ Ok (x.0, x.2)
 
 pub accepted : (bs : List ℕ) (x : ℕ × ℕ × FilingFields) → reading bs ≡ Ok x → Accepted bs x
@@ -93,26 +93,26 @@ accepted bs x h =
     let h2 = then_inv (part (count_at b.0) 1 bs) _ d2.0 d2.1 in
     record {
       mark = a1.0;
-      mark-is = a1.1;
-      mark-good = a2.1;
+      mark_is = a1.1;
+      mark_good = a2.1;
       version = a3.0;
-      version-is = a3.1;
-      version-good = v ∙ ap (λ (y : ℕ × ℕ × FilingFields). y.1) e;
+      version_is = a3.1;
+      version_good = v ∙ ap (λ (y : ℕ × ℕ × FilingFields). y.1) e;
       row = b.0;
       row_is = ap (λ n. known (row_of n)) v ∙ b.1;
       count = c1.0;
       count_is = c1.1;
       codes = c2.0;
-      codes-is = c2.1;
-      codes-good = c2.2;
+      codes_is = c2.1;
+      codes_good = c2.2;
       head = h1.0;
-      head-is = h1.1;
+      head_is = h1.1;
       start = d1.0;
-      head-good = h1.2;
+      head_good = h1.2;
       lines = h2.0;
-      lines-is = h2.1;
+      lines_is = h2.1;
       many = d2.0;
-      lines-good = h2.2;
+      lines_good = h2.2;
       rest = d2.2 ∙ ap (λ (y : ℕ × ℕ × FilingFields). Ok (y.0, y.2)) e;
     }
 
@@ -123,5 +123,5 @@ matching_inv (Some n) h = absurd (err_ok h)
 -- the schema of an accepted record is the row, and its count is the row's length
 pub schema_row : (bs : List ℕ) (x : ℕ × ℕ × FilingFields) (a : Accepted bs x) → (a.codes ≡ a.row) × (get_or a.count 0 0 ≡ length a.row)
 schema_row bs x a =
-    let e = off_none 1 a.codes a.row (matching_inv (first_off 1 a.codes a.row) a.codes-good) in
-    (e, part_length 6 (get_or a.count 0 0) bs a.codes a.codes-is ∙ ap length e)
+    let e = off_none 1 a.codes a.row (matching_inv (first_off 1 a.codes a.row) a.codes_good) in
+    (e, part_length 6 (get_or a.count 0 0) bs a.codes a.codes_is ∙ ap length e)

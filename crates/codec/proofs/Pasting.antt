@@ -69,49 +69,49 @@ module _ (v : ℕ) (row : List ℕ) (f : FilingFields) (n : ℕ) (e : n ≡ head
   abbrev size : ℕ
   size = 6 + length row + 8 * n + 1 + 8 * (length row - n) * length f.lines
 
-  heading-is : field_bytes (take (n - 0) row) (head_field f.head) ≡ field_bytes (head_codes row) (head_field f.head)
-  heading-is = ap (λ m. field_bytes (take m row) (head_field f.head)) (sub-zero n ∙ e)
+  heading_is : field_bytes (take (n - 0) row) (head_field f.head) ≡ field_bytes (head_codes row) (head_field f.head)
+  heading_is = ap (λ m. field_bytes (take m row) (head_field f.head)) (sub-zero n ∙ e)
 
   lines_are : flat_map (line_bytes (take (length row - n) (drop n row))) f.lines ≡ flat_map (line_bytes (line_codes row)) f.lines
   lines_are = ap (λ cs. flat_map (line_bytes cs) f.lines) (take_rest row n ∙ ap (λ m. drop m row) e)
 
-  length-heading : length (field_bytes (head_codes row) (head_field f.head)) ≡ 8 * n
-  length-heading = length_fields (head_codes row) (head_field f.head) ∙ ap (λ k. 8 * k) (length-take-le (heads row) row (omega arith) ∙ sym e)
+  length_heading : length (field_bytes (head_codes row) (head_field f.head)) ≡ 8 * n
+  length_heading = length_fields (head_codes row) (head_field f.head) ∙ ap (λ k. 8 * k) (length-take-le (heads row) row (omega arith) ∙ sym e)
 
-  length-lines : length (flat_map (line_bytes (line_codes row)) f.lines) ≡ 8 * (length row - n) * length f.lines
-  length-lines =
+  length_lines : length (flat_map (line_bytes (line_codes row)) f.lines) ≡ 8 * (length row - n) * length f.lines
+  length_lines =
       length_joined (line_bytes (line_codes row)) (8 * length (line_codes row)) (λ l. length_fields (line_codes row) (line_field l)) f.lines
       ∙ ap (λ k. 8 * k * length f.lines) (length-drop (heads row) row ∙ ap (λ m. length row - m) (sym e))
 
-  pub length-record : size ≡ length (record_of v row f)
-  length-record =
+  pub length_record : size ≡ length (record_of v row f)
+  length_record =
       omega (
         arith,
-        length-heading,
-        length-lines,
+        length_heading,
+        length_lines,
         length-append (field_bytes (head_codes row) (head_field f.head)) (length f.lines ∷ flat_map (line_bytes (line_codes row)) f.lines),
         length-append row (field_bytes (head_codes row) (head_field f.head) ++ (length f.lines ∷ flat_map (line_bytes (line_codes row)) f.lines)),
       )
 
-  pub record-parts : (old b1 b2 b3 b4 : List ℕ) → size ≤ length old
+  pub record_parts : (old b1 b2 b3 b4 : List ℕ) → size ≤ length old
       → b1 ≡ pasted old 0 (opening_bytes v row)
       → b2 ≡ pasted b1 (6 + length row) (field_bytes (take (n - 0) row) (head_field f.head))
       → b3 ≡ pasted b2 (6 + length row + 8 * n) (length f.lines ∷ [])
       → b4 ≡ pasted b3 (6 + length row + 8 * n + 1) (flat_map (line_bytes (take (length row - n) (drop n row))) f.lines)
       → b4 ≡ record_of v row f ++ drop (length (record_of v row f)) old
-  record-parts old b1 b2 b3 b4 h e1 e2 e3 e4 =
+  record_parts old b1 b2 b3 b4 h e1 e2 e3 e4 =
       let a : List ℕ = opening_bytes v row in
       let b : List ℕ = field_bytes (head_codes row) (head_field f.head) in
       let c : List ℕ = length f.lines ∷ [] in
       let d : List ℕ = flat_map (line_bytes (line_codes row)) f.lines in
       let la : length a ≡ 6 + length row = omega arith in
-      let lab : length (a ++ b) ≡ 6 + length row + 8 * n = length-append a b ∙ omega (arith, la, length-heading) in
+      let lab : length (a ++ b) ≡ 6 + length row + 8 * n = length-append a b ∙ omega (arith, la, length_heading) in
       let labc : length ((a ++ b) ++ c) ≡ 6 + length row + 8 * n + 1 = length-append (a ++ b) c ∙ omega (arith, lab) in
-      let s2 : b2 ≡ pasted old 0 (a ++ b) = e2 ∙ ap (pasted b1 (6 + length row)) heading-is ∙ ap (λ x. pasted x (6 + length row) b) e1 ∙ pasted_both old a b 0 (6 + length row) (omega arith) (omega (arith, length-heading)) in
+      let s2 : b2 ≡ pasted old 0 (a ++ b) = e2 ∙ ap (pasted b1 (6 + length row)) heading_is ∙ ap (λ x. pasted x (6 + length row) b) e1 ∙ pasted_both old a b 0 (6 + length row) (omega arith) (omega (arith, length_heading)) in
       let s3 : b3 ≡ pasted old 0 ((a ++ b) ++ c) = e3 ∙ ap (λ x. pasted x (6 + length row + 8 * n) c) s2 ∙ pasted_both old (a ++ b) c 0 (6 + length row + 8 * n) (omega arith) (omega arith) in
       let s4 : b4 ≡ pasted old 0 (((a ++ b) ++ c) ++ d) =
       e4 ∙ ap (pasted b3 (6 + length row + 8 * n + 1)) lines_are ∙ ap (λ x. pasted x (6 + length row + 8 * n + 1) d) s3
-      ∙ pasted_both old ((a ++ b) ++ c) d 0 (6 + length row + 8 * n + 1) (omega arith) (omega (arith, length-lines)) in
+      ∙ pasted_both old ((a ++ b) ++ c) d 0 (6 + length row + 8 * n + 1) (omega arith) (omega (arith, length_lines)) in
       s4 ∙ ap (pasted old 0) (append_assoc (a ++ b) c d ∙ append_assoc a b (c ++ d)) ∙ ap (λ m. record_of v row f ++ drop m old) (zero-add (length (record_of v row f)))
 
 pub same_record : (v : ℕ) (row : List ℕ) {f g : FilingFields} → v ≡ written_version → row ≡ written_row → f ≡ g → record_of v row f ≡ written g

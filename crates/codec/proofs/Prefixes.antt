@@ -75,48 +75,48 @@ module _ (bs cs : List ℕ) (x : ℕ × ℕ × FilingFields) (agrees : Agrees x.
   ends : count_at row + 1 ≤ x.0
   ends = lined_ends (line_codes row) a.many (count_at row + 1) bs a.start (x.0, x.2) a.rest
 
-  schema-ends : 6 + get_or a.count 0 0 ≤ head_at row
-  schema-ends = omega (arith, (schema_row bs x a).1)
+  schema_ends : 6 + get_or a.count 0 0 ≤ head_at row
+  schema_ends = omega (arith, (schema_row bs x a).1)
 
-  head-ends : head_at row + 8 * length (head_codes row) ≤ count_at row
-  head-ends = omega (arith, length-take (heads row) row)
+  head_ends : head_at row + 8 * length (head_codes row) ≤ count_at row
+  head_ends = omega (arith, length-take (heads row) row)
 
-  opening-up : opening cs ≡ up_to w 5 (number a.version)
-  opening-up =
-      then_up w 3 5 a.mark _ _ _ (part_up x.0 0 3 bs cs a.mark agrees (omega (arith, ends)) a.mark-is) (omega arith) (λ _.
-      then_ok _ a.mark-good
-      ∙ then_up w 5 5 a.version _ _ _ (part_up x.0 3 2 bs cs a.version agrees (omega (arith, ends)) a.version-is) (omega arith) (λ there. sym (up_there w 5 _ there)))
+  opening_up : opening cs ≡ up_to w 5 (number a.version)
+  opening_up =
+      then_up w 3 5 a.mark _ _ _ (part_up x.0 0 3 bs cs a.mark agrees (omega (arith, ends)) a.mark_is) (omega arith) (λ _.
+      then_ok _ a.mark_good
+      ∙ then_up w 5 5 a.version _ _ _ (part_up x.0 3 2 bs cs a.version agrees (omega (arith, ends)) a.version_is) (omega arith) (λ there. sym (up_there w 5 _ there)))
 
-  schema-up : schema row cs ≡ up_to w (6 + get_or a.count 0 0) tt
-  schema-up =
+  schema_up : schema row cs ≡ up_to w (6 + get_or a.count 0 0) tt
+  schema_up =
       then_up w 6 (6 + get_or a.count 0 0) a.count _ _ _ (part_up x.0 5 1 bs cs a.count agrees (omega (arith, ends)) a.count-is) (omega arith) (λ _.
-      then_up w (6 + get_or a.count 0 0) (6 + get_or a.count 0 0) a.codes _ _ _ (part_up x.0 6 (get_or a.count 0 0) bs cs a.codes agrees (omega (arith, ends, schema-ends)) a.codes-is) (omega arith) (λ there.
-      a.codes-good ∙ sym (up_there w (6 + get_or a.count 0 0) tt there)))
+      then_up w (6 + get_or a.count 0 0) (6 + get_or a.count 0 0) a.codes _ _ _ (part_up x.0 6 (get_or a.count 0 0) bs cs a.codes agrees (omega (arith, ends, schema_ends)) a.codes_is) (omega arith) (λ there.
+      a.codes_good ∙ sym (up_there w (6 + get_or a.count 0 0) tt there)))
 
-  headed-up : headed (head_codes row) (head_at row) cs ≡ up_to w (head_at row + 8 * length (head_codes row)) a.start
-  headed-up =
+  headed_up : headed (head_codes row) (head_at row) cs ≡ up_to w (head_at row + 8 * length (head_codes row)) a.start
+  headed_up =
       then_up w (head_at row + 8 * length (head_codes row)) (head_at row + 8 * length (head_codes row)) a.head _ _ _
-      (part_up x.0 (head_at row) (8 * length (head_codes row)) bs cs a.head agrees (omega (arith, ends, head-ends)) a.head-is) (omega arith) (λ there.
-      a.head-good ∙ sym (up_there w (head_at row + 8 * length (head_codes row)) a.start there))
+      (part_up x.0 (head_at row) (8 * length (head_codes row)) bs cs a.head agrees (omega (arith, ends, head_ends)) a.head_is) (omega arith) (λ there.
+      a.head_good ∙ sym (up_there w (head_at row + 8 * length (head_codes row)) a.start there))
 
-  counted-up : counted (count_at row) cs ≡ up_to w (count_at row + 1) a.many
-  counted-up =
-      then_up w (count_at row + 1) (count_at row + 1) a.lines _ _ _ (part_up x.0 (count_at row) 1 bs cs a.lines agrees ends a.lines-is) (omega arith) (λ there.
-      a.lines-good ∙ sym (up_there w (count_at row + 1) a.many there))
+  counted_up : counted (count_at row) cs ≡ up_to w (count_at row + 1) a.many
+  counted_up =
+      then_up w (count_at row + 1) (count_at row + 1) a.lines _ _ _ (part_up x.0 (count_at row) 1 bs cs a.lines agrees ends a.lines_is) (omega arith) (λ there.
+      a.lines_good ∙ sym (up_there w (count_at row + 1) a.many there))
 
   body_up : body row cs ≡ up_to w x.0 (x.0, x.2)
   body_up =
-      then_up w (head_at row + 8 * length (head_codes row)) x.0 a.start _ _ _ headed-up (omega (arith, ends, head-ends)) (λ _.
-      then_up w (count_at row + 1) x.0 a.many _ _ _ counted-up ends (λ there.
+      then_up w (head_at row + 8 * length (head_codes row)) x.0 a.start _ _ _ headed_up (omega (arith, ends, head_ends)) (λ _.
+      then_up w (count_at row + 1) x.0 a.many _ _ _ counted_up ends (λ there.
       lined_up x.0 bs cs agrees (line_codes row) a.many (count_at row + 1) a.start (x.0, x.2) (omega arith) there a.rest))
 
-  whole-up : reading cs ≡ up_to w x.0 x
-  whole-up =
-      then_up w 5 x.0 (number a.version) _ _ _ opening-up (omega (arith, ends)) (λ _.
+  whole_up : reading cs ≡ up_to w x.0 x
+  whole_up =
+      then_up w 5 x.0 (number a.version) _ _ _ opening_up (omega (arith, ends)) (λ _.
       then_ok _ a.row_is
-      ∙ then_up w (6 + get_or a.count 0 0) x.0 tt _ _ _ schema-up (omega (arith, ends, schema-ends)) (λ _.
+      ∙ then_up w (6 + get_or a.count 0 0) x.0 tt _ _ _ schema_up (omega (arith, ends, schema_ends)) (λ _.
       then_up w x.0 x.0 (x.0, x.2) _ _ _ body_up (omega arith) (λ there.
-      ap (λ v. Ok (x.0, v, x.2)) a.version-good ∙ sym (up_there w x.0 x there))))
+      ap (λ v. Ok (x.0, v, x.2)) a.version_good ∙ sym (up_there w x.0 x there))))
 
 lined_there : (codes : List ℕ) (k at : ℕ) (bs : List ℕ) (f : FilingFields) (r : ℕ × FilingFields) → at ≤ length bs → lined codes k at bs f ≡ Ok r → r.0 ≤ length bs
 lined_there codes zero at bs f r l h = let e : at ≡ r.0 = ap (λ (x : ℕ × FilingFields). x.0) (ok_inj h) in omega arith
@@ -126,7 +126,7 @@ lined_there codes (suc k) at bs f r l h =
     lined_there codes k (at + 8 * length codes) bs b.0 r (part_inv at (8 * length codes) bs a.0 a.1).0 b.2
 
 used_there : (bs : List ℕ) (x : ℕ × ℕ × FilingFields) → Accepted bs x → x.0 ≤ length bs
-used_there bs x a = lined_there (line_codes a.row) a.many (count_at a.row + 1) bs a.start (x.0, x.2) (part_inv (count_at a.row) 1 bs a.lines a.lines-is).0 a.rest
+used_there bs x a = lined_there (line_codes a.row) a.many (count_at a.row + 1) bs a.start (x.0, x.2) (part_inv (count_at a.row) 1 bs a.lines a.lines_is).0 a.rest
 
 -- bytes after the record change nothing
 pub followed : (bs : List ℕ) (x : ℕ × ℕ × FilingFields) → reading bs ≡ Ok x → (rest : List ℕ) → reading (take x.0 bs ++ rest) ≡ Ok x
@@ -134,7 +134,7 @@ followed bs x h rest =
     let n : ℕ = x.0 in
     let l = used_there bs x (accepted bs x h) in
     let t : length (take n bs) ≡ n = length-take-le n bs l in
-    whole-up bs (take n bs ++ rest) x (λ e k _. take-append-le e (take n bs) rest (omega arith) ∙ take-take e n bs k) (accepted bs x h)
+    whole_up bs (take n bs ++ rest) x (λ e k _. take-append-le e (take n bs) rest (omega arith) ∙ take-take e n bs k) (accepted bs x h)
     ∙ up_there (length (take n bs ++ rest)) n x (omega (arith, length-append (take n bs) rest))
 
 -- a proper beginning of a record is cut
@@ -142,7 +142,7 @@ pub beginning : (bs : List ℕ) (x : ℕ × ℕ × FilingFields) → reading bs 
 beginning bs x h k less =
     let l = used_there bs x (accepted bs x h) in
     let t : length (take k bs) ≡ k = length-take-le k bs (omega arith) in
-    whole-up bs (take k bs) x (λ e _ m. take-take e k bs (omega arith)) (accepted bs x h)
+    whole_up bs (take k bs) x (λ e _ m. take-take e k bs (omega arith)) (accepted bs x h)
     ∙ up_cut (length (take k bs)) x.0 x (omega arith)
     ∙ ap (λ n. Err (cut n)) t
 

@@ -24,7 +24,7 @@ use Rattle.codec.specs.Table.{head_codes, line_codes, written_version, written_r
 use Rattle.codec.specs.Writing.{field_bytes, line_bytes, opening_bytes, written}
 use Rattle.codec.proofs.Bytes.{number_back}
 use Rattle.codec.proofs.Inverting.{part_there}
-use Rattle.codec.proofs.Pasting.{length-record}
+use Rattle.codec.proofs.Pasting.{length_record}
 use Rattle.codec.proofs.Steps.{then_ok}
 
 -- numbers in their ranges: none is outside
@@ -151,18 +151,18 @@ module _ (f : FilingFields) (rest : List ℕ) (s : Sound f) where
   abbrev tail : List ℕ
   tail = heads ++ (length f.lines ∷ (lines ++ rest))
 
-  opening-back : opening (opens ++ tail) ≡ Ok written_version
-  opening-back =
+  opening_back : opening (opens ++ tail) ≡ Ok written_version
+  opening_back =
       then_ok _ (part_at [] (0x4F ∷ 0x42 ∷ 0x46 ∷ []) (0 ∷ 3 ∷ length written_row ∷ (written_row ++ tail)) 0 3 refl refl)
       ∙ then_ok _ (part_at (0x4F ∷ 0x42 ∷ 0x46 ∷ []) (0 ∷ 3 ∷ []) (length written_row ∷ (written_row ++ tail)) 3 2 refl refl)
 
-  schema-back : schema written_row (opens ++ tail) ≡ Ok tt
-  schema-back =
+  schema_back : schema written_row (opens ++ tail) ≡ Ok tt
+  schema_back =
       then_ok _ (part_at (0x4F ∷ 0x42 ∷ 0x46 ∷ 0 ∷ 3 ∷ []) (length written_row ∷ []) (written_row ++ tail) 5 1 refl refl)
       ∙ then_ok _ (part_at (0x4F ∷ 0x42 ∷ 0x46 ∷ 0 ∷ 3 ∷ length written_row ∷ []) written_row tail 6 14 refl refl)
 
-  headed-back : headed (head_codes written_row) 20 (opens ++ tail) ≡ Ok (record { head = f.head; lines = [] })
-  headed-back =
+  headed_back : headed (head_codes written_row) 20 (opens ++ tail) ≡ Ok (record { head = f.head; lines = [] })
+  headed_back =
       then_ok _ (part_at opens heads (length f.lines ∷ (lines ++ rest)) 20 56 refl refl)
       ∙ ap (heading blank) (head_back f.head s.head) ∙ heading_back f.head s.head
 
@@ -173,11 +173,11 @@ module _ (f : FilingFields) (rest : List ℕ) (s : Sound f) where
 
   body_back : body written_row (opens ++ tail) ≡ Ok (77 + 56 * length f.lines, f)
   body_back =
-      then_ok _ headed-back ∙ then_ok _ counted_back
+      then_ok _ headed_back ∙ then_ok _ counted_back
       ∙ lines_back f s [] f.lines refl (opens ++ (heads ++ (length f.lines ∷ []))) rest (opens ++ tail) 77 refl refl
 
   whole_back : reading (opens ++ tail) ≡ Ok (77 + 56 * length f.lines, written_version, f)
-  whole_back = then_ok _ opening-back ∙ then_ok _ schema-back ∙ then_ok _ body_back
+  whole_back = then_ok _ opening_back ∙ then_ok _ schema_back ∙ then_ok _ body_back
 
 pub read_back : (f : FilingFields) (rest : List ℕ) → Sound f → reading (written f ++ rest) ≡ Ok (length (written f), written_version, f)
-read_back f rest s = whole_back f rest s ∙ ap (λ n. Ok (n, written_version, f)) (length-record written_version written_row f 7 refl (omega arith))
+read_back f rest s = whole_back f rest s ∙ ap (λ n. Ok (n, written_version, f)) (length_record written_version written_row f 7 refl (omega arith))

@@ -110,51 +110,51 @@ one_back (a ∷ b ∷ t) l = absurd (omega arith)
 
 module _ (bs : List ℕ) (x : ℕ × ℕ × FilingFields) (s : Small bs) (a : Accepted bs x) (v : x.1 ≡ written_version) where
   row_is : a.row ≡ written_row
-  row_is = ok_inj (sym a.row_is ∙ ap (λ n. known (row_of n)) (a.version-good ∙ v))
+  row_is = ok_inj (sym a.row_is ∙ ap (λ n. known (row_of n)) (a.version_good ∙ v))
 
-  version-is : a.version ≡ bytes_of 2 written_version
-  version-is =
-      sym (bytes_back a.version (small_part 3 2 bs a.version s a.version-is))
-      ∙ ap (λ k. bytes_of k (number a.version)) (sym (part_length 3 2 bs a.version a.version-is))
-      ∙ ap (bytes_of 2) (a.version-good ∙ v)
+  version_is : a.version ≡ bytes_of 2 written_version
+  version_is =
+      sym (bytes_back a.version (small_part 3 2 bs a.version s a.version_is))
+      ∙ ap (λ k. bytes_of k (number a.version)) (sym (part_length 3 2 bs a.version a.version_is))
+      ∙ ap (bytes_of 2) (a.version_good ∙ v)
 
   count_is : a.count ≡ length a.row ∷ []
   count_is = one_back a.count (part_length 5 1 bs a.count a.count-is) ∙ ap (λ n. n ∷ []) (schema_row bs x a).1
 
-  opening-is : take 20 bs ≡ opening_bytes written_version written_row
-  opening-is =
+  opening_is : take 20 bs ≡ opening_bytes written_version written_row
+  opening_is =
       ap (λ (r : List ℕ). take (6 + length r) bs) (sym row_is)
       ∙ ap (λ n. take (6 + n) bs) (sym (schema_row bs x a).1)
-      ∙ front 6 (get_or a.count 0 0) bs a.codes a.codes-is
+      ∙ front 6 (get_or a.count 0 0) bs a.codes a.codes_is
       ∙ ap (λ t. take 6 bs ++ t) (schema_row bs x a).0
       ∙ ap (λ t. t ++ a.row) (front 5 1 bs a.count a.count-is ∙ ap (λ t. take 5 bs ++ t) count_is)
-      ∙ ap (λ t. (t ++ (length a.row ∷ [])) ++ a.row) (front 3 2 bs a.version a.version-is ∙ ap (λ t. take 3 bs ++ t) version-is)
-      ∙ ap (λ t. ((t ++ bytes_of 2 written_version) ++ (length a.row ∷ [])) ++ a.row) (front 0 3 bs a.mark a.mark-is ∙ mark_back a.mark (part_length 0 3 bs a.mark a.mark-is) a.mark-good)
+      ∙ ap (λ t. (t ++ (length a.row ∷ [])) ++ a.row) (front 3 2 bs a.version a.version_is ∙ ap (λ t. take 3 bs ++ t) version_is)
+      ∙ ap (λ t. ((t ++ bytes_of 2 written_version) ++ (length a.row ∷ [])) ++ a.row) (front 0 3 bs a.mark a.mark_is ∙ mark_back a.mark (part_length 0 3 bs a.mark a.mark_is) a.mark_good)
       ∙ ap (opening_bytes written_version) row_is
 
   start_is : record { head = head_of (head_codes written_row) a.head; lines = [] } ≡ a.start
   start_is =
       ap (λ (r : List ℕ). record { head = head_of (head_codes r) a.head; lines = [] }) (sym row_is)
-      ∙ accepted_is (head_refusal blank (head_of (head_codes a.row) a.head)) (record { head = head_of (head_codes a.row) a.head; lines = [] }) a.start a.head-good
+      ∙ accepted_is (head_refusal blank (head_of (head_codes a.row) a.head)) (record { head = head_of (head_codes a.row) a.head; lines = [] }) a.start a.head_good
 
-  head-part : part 20 56 bs ≡ Ok a.head
-  head-part = ap (λ (r : List ℕ). part (head_at r) (8 * length (head_codes r)) bs) (sym row_is) ∙ a.head-is
+  head_part : part 20 56 bs ≡ Ok a.head
+  head_part = ap (λ (r : List ℕ). part (head_at r) (8 * length (head_codes r)) bs) (sym row_is) ∙ a.head_is
 
-  head-is : take 76 bs ≡ take 20 bs ++ field_bytes (head_codes written_row) (head_field a.start.head)
-  head-is =
-      front 20 56 bs a.head head-part
-      ∙ ap (λ t. take 20 bs ++ t) (sym (head_back a.head (part_length 20 56 bs a.head head-part) (small_part 20 56 bs a.head s head-part)))
+  head_is : take 76 bs ≡ take 20 bs ++ field_bytes (head_codes written_row) (head_field a.start.head)
+  head_is =
+      front 20 56 bs a.head head_part
+      ∙ ap (λ t. take 20 bs ++ t) (sym (head_back a.head (part_length 20 56 bs a.head head_part) (small_part 20 56 bs a.head s head_part)))
       ∙ ap (λ (f : FilingFields). take 20 bs ++ field_bytes (head_codes written_row) (head_field f.head)) start_is
 
-  lines-part : part 76 1 bs ≡ Ok a.lines
-  lines-part = ap (λ (r : List ℕ). part (count_at r) 1 bs) (sym row_is) ∙ a.lines-is
+  lines_part : part 76 1 bs ≡ Ok a.lines
+  lines_part = ap (λ (r : List ℕ). part (count_at r) 1 bs) (sym row_is) ∙ a.lines_is
 
-  lines-is : take 77 bs ≡ take 76 bs ++ (a.many ∷ [])
-  lines-is =
-      front 76 1 bs a.lines lines-part
+  lines_is : take 77 bs ≡ take 76 bs ++ (a.many ∷ [])
+  lines_is =
+      front 76 1 bs a.lines lines_part
       ∙ ap (λ t. take 76 bs ++ t)
-      (one_back a.lines (part_length 76 1 bs a.lines lines-part)
-      ∙ ap (λ n. n ∷ []) (ok_inj (cond_ok (ltb most_lines (get_or a.lines 0 0)) (refusal 7 []) (Ok (get_or a.lines 0 0)) a.many a.lines-good).1))
+      (one_back a.lines (part_length 76 1 bs a.lines lines_part)
+      ∙ ap (λ n. n ∷ []) (ok_inj (cond_ok (ltb most_lines (get_or a.lines 0 0)) (refusal 7 []) (Ok (get_or a.lines 0 0)) a.many a.lines_good).1))
 
   all_read : LinesRead a.many 77 bs a.start (x.0, x.2)
   all_read = lines_read a.many 77 bs a.start (x.0, x.2) s (ap (λ (r : List ℕ). lined (line_codes r) a.many (count_at r + 1) bs a.start) (sym row_is) ∙ a.rest)
@@ -168,7 +168,7 @@ module _ (bs : List ℕ) (x : ℕ × ℕ × FilingFields) (s : Small bs) (a : Ac
       let f : x.2 ≡ record { head = a.start.head; lines = more } =
       all_read.adds ∙ ap (λ (g : FilingFields). record { head = a.start.head; lines = g.lines ++ more }) (sym start_is) in
       let t : take x.0 bs ≡ ((o ++ hb) ++ (a.many ∷ [])) ++ lb =
-      all_read.bytes ∙ ap (λ t. t ++ lb) (lines-is ∙ ap (λ t. t ++ (a.many ∷ [])) (head-is ∙ ap (λ t. t ++ hb) opening-is)) in
+      all_read.bytes ∙ ap (λ t. t ++ lb) (lines_is ∙ ap (λ t. t ++ (a.many ∷ [])) (head_is ∙ ap (λ t. t ++ hb) opening_is)) in
       ap written f
       ∙ ap (λ n. o ++ (hb ++ (n ∷ lb))) all_read.many
       ∙ sym (append_assoc (o ++ hb) (a.many ∷ []) lb ∙ append_assoc o hb (a.many ∷ lb))

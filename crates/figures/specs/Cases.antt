@@ -26,9 +26,9 @@ pub data Case : Type 0 where
   -- the outcome of a year, by the method of the enrolment's kind
   limit : EnrolmentFields → Places → ℕ → Case
   -- the first year that has a limit
-  firstLimit : EnrolmentFields → Places → Case
+  first_limit : EnrolmentFields → Places → Case
   -- what stands assessed at a facility and year after a history, told from its oldest call on
-  lookedUp : List CallFields → ℕ → ℕ → Case
+  looked_up : List CallFields → ℕ → ℕ → Case
   -- what the reader makes of some bytes
   reads : List ℕ → Case
 
@@ -37,14 +37,14 @@ pub data Case : Type 0 where
 pub data Figure : Type 0 where
   is : ℕ → Figure
   bears : ℕ → ℕ → Figure
-  noLimit : ℕ → Figure
+  no_limit : ℕ → Figure
   refused : ℕ → ℕ → Figure
 
 -- a figure as a row of numbers, the first of which tells its kind
 abbrev pub row : Figure → List ℕ
 row (is n) = 0 ∷ n ∷ []
 row (bears n number) = 1 ∷ n ∷ number ∷ []
-row (noLimit c) = 2 ∷ c ∷ []
+row (no_limit c) = 2 ∷ c ∷ []
 row (refused n place) = 3 ∷ n ∷ place ∷ []
 
 abbrev pub same_row : List ℕ → List ℕ → Bool
@@ -59,7 +59,7 @@ standard_figure (Err c) = refused (cause_number c) 0
 
 abbrev pub outcome_figure : outcome.Told → Figure
 outcome_figure (outcome.limit n) = is n
-outcome_figure (outcome.noLimit c) = noLimit c
+outcome_figure (outcome.noLimit c) = no_limit c
 outcome_figure (outcome.fault c l) = refused c l
 
 abbrev pub has_limit : outcome.Told → Bool
@@ -72,15 +72,15 @@ by_kind e ps y = cond (e.kind == 1) (industrial e ps y) (station e ps y)
 
 abbrev pub year_figure : Option ℕ → Figure
 year_figure (Some y) = is y
-year_figure None = noLimit 0
+year_figure None = no_limit 0
 
 abbrev pub bearing : outcome.Told → ℕ → Figure
 bearing (outcome.limit n) number = bears n number
-bearing (outcome.noLimit c) number = noLimit c
+bearing (outcome.noLimit c) number = no_limit c
 bearing (outcome.fault c l) number = refused c l
 
 abbrev pub assessed_figure : Option AssessmentFields → Figure
-assessed_figure None = noLimit 15
+assessed_figure None = no_limit 15
 assessed_figure (Some a) = bearing a.outcome a.number
 
 abbrev pub first_value : List (Name × ℕ) → ℕ
@@ -95,8 +95,8 @@ abbrev pub figure : Case → Figure
 figure (production p) = is (three_figures p 1)
 figure (standard e ps y activity) = standard_figure (calculated e (up_to y ps) activity)
 figure (limit e ps y) = outcome_figure (by_kind e ps y)
-figure (firstLimit e ps) = year_figure (least_from (λ y. has_limit (by_kind e ps y)) 2017 20)
-figure (lookedUp calls f y) = assessed_figure (assessment_at by_kind (accepted (reverse calls)) f y)
+figure (first_limit e ps) = year_figure (least_from (λ y. has_limit (by_kind e ps y)) 2017 20)
+figure (looked_up calls f y) = assessed_figure (assessment_at by_kind (accepted (reverse calls)) f y)
 figure (reads bytes) = record_figure (reading bytes)
 
 -- three products and electricity in 2017 and 2018; the standard of the third product is calculated, at 80 per cent
@@ -169,7 +169,7 @@ early_year_withdrawn =
 
 -- a plant that files every year and began to produce on a day of 2019
 abbrev begun : ℕ → Case
-begun day = firstLimit (enrolment 1 2019 day 1 80) (every_year (filing 2019 0 (numerical 1 1000 1000 0 ∷ [])))
+begun day = first_limit (enrolment 1 2019 day 1 80) (every_year (filing 2019 0 (numerical 1 1000 1000 0 ∷ [])))
 
 -- a header of version 2 whose sixth code is 6
 abbrev sixth_code_six : List ℕ
@@ -187,8 +187,8 @@ cases =
     ∷ (enlarged 50 899, is 106900)
     ∷ (enlarged 49 899, is 111000)
     ∷ (enlarged 50 900, is 111000)
-    ∷ (lookedUp early_year_withdrawn 1 2022, bears 98700 4)
-    ∷ (lookedUp early_year_withdrawn 1 2023, bears 86400 4)
+    ∷ (looked_up early_year_withdrawn 1 2022, bears 98700 4)
+    ∷ (looked_up early_year_withdrawn 1 2023, bears 86400 4)
     ∷ (begun 1, is 2021)
     ∷ (begun 2, is 2022)
     ∷ (reads sixth_code_six, refused 4 6)

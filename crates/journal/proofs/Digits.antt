@@ -18,8 +18,8 @@ module _ (bs : List ℕ) (i : ℕ) (h : i < length bs) where
   pub no_digit : all_digits (drop i bs) ≡ all_digits bs → digit (get_or bs i 0) ≡ false → false ≡ all_digits bs
   no_digit s t = sym (and_left _ _ t) ∙ sym (digits_more bs i h) ∙ s
 
-  pub one-digit : all_digits (drop i bs) ≡ all_digits bs → digit (get_or bs i 0) ≡ true → all_digits (drop (i + 1) bs) ≡ all_digits bs
-  one-digit s t = let p = digits_more bs i h in sym (rw t at p) ∙ s
+  pub one_digit : all_digits (drop i bs) ≡ all_digits bs → digit (get_or bs i 0) ≡ true → all_digits (drop (i + 1) bs) ≡ all_digits bs
+  one_digit s t = let p = digits_more bs i h in sym (rw t at p) ∙ s
 
 pub no_more : (bs : List ℕ) (i : ℕ) → length bs ≤ i → all_digits (drop i bs) ≡ all_digits bs → true ≡ all_digits bs
 no_more bs i h s = sym (at_drop_all all_digits bs i h) ∙ s

@@ -28,8 +28,8 @@ module _ (bs : List ℕ) (done : List (List ℕ)) (start i : ℕ) (s : Sofar bs 
   step : i < length bs → split (between bs start i) (drop i bs) ≡ cond (blank (get_or bs i 0)) (word (between bs start i) ++ split [] (drop (i + 1) bs)) (split (between bs start i ++ get_or bs i 0 ∷ []) (drop (i + 1) bs))
   step h = at_drop_more (split (between bs start i)) bs i 0 h
 
-  pub at-blank : (more : List (List ℕ)) → i < length bs → blank (get_or bs i 0) ≡ true → more ≡ done ++ word (between bs start i) → Sofar bs more (i + 1) (i + 1)
-  at-blank more h t e =
+  pub at_blank : (more : List (List ℕ)) → i < length bs → blank (get_or bs i 0) ≡ true → more ≡ done ++ word (between bs start i) → Sofar bs more (i + 1) (i + 1)
+  at_blank more h t e =
       let p = step h in
       record {
         begun = omega arith;
@@ -49,8 +49,8 @@ module _ (bs : List ℕ) (done : List (List ℕ)) (start i : ℕ) (s : Sofar bs 
       ∙ take_more (drop start bs) (i - start) 0 g
       ∙ ap (λ b. between bs start i ++ b ∷ []) (get_or-drop start bs (i - start) 0 ∙ ap (λ k. get_or bs k 0) m)
 
-  pub in-word : i < length bs → blank (get_or bs i 0) ≡ false → Sofar bs done start (i + 1)
-  in-word h t =
+  pub in_word : i < length bs → blank (get_or bs i 0) ≡ false → Sofar bs done start (i + 1)
+  in_word h t =
       let p = step h in
       record {
         begun = omega (arith, s.begun);
@@ -59,8 +59,8 @@ module _ (bs : List ℕ) (done : List (List ℕ)) (start i : ℕ) (s : Sofar bs 
             ∙ s.whole;
       }
 
-  pub at-end : length bs ≤ i → i ≤ length bs → (more : List (List ℕ)) → more ≡ done ++ word (between bs start (length bs)) → more ≡ split [] bs
-  at-end h g more e =
+  pub at_end : length bs ≤ i → i ≤ length bs → (more : List (List ℕ)) → more ≡ done ++ word (between bs start (length bs)) → more ≡ split [] bs
+  at_end h g more e =
       let n : length bs ≡ i = omega arith in
       e ∙ ap (λ k. done ++ word (between bs start k)) n
       ∙ ap (λ l. done ++ l) (sym (at_drop_all (split (between bs start i)) bs i h))

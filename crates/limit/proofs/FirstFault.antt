@@ -19,22 +19,22 @@ module _ (yield : LineFields → Result ℕ Cause) where
   Tells i ls (Ok n) = Yield yield ls (length ls) × (n ≡ sum_by (λ l. part (yield l)) ls)
   Tells i ls (Err e) = Faulty i ls e
 
-  yield-cons : (l : LineFields) (ls : List LineFields) (n a : ℕ) → yield l ≡ Ok a → Yield yield ls n → Yield yield (l ∷ ls) (suc n)
-  yield-cons l ls n a e rest zero d h = (a, e)
-  yield-cons l ls n a e rest (suc k) d h = rest k d (le_of_suc-le-suc h)
+  yield_cons : (l : LineFields) (ls : List LineFields) (n a : ℕ) → yield l ≡ Ok a → Yield yield ls n → Yield yield (l ∷ ls) (suc n)
+  yield_cons l ls n a e rest zero d h = (a, e)
+  yield_cons l ls n a e rest (suc k) d h = rest k d (le_of_suc-le-suc h)
 
   step : (i : ℕ) (l : LineFields) (ls : List LineFields) (y : Result ℕ Cause) → yield l ≡ y → (r : Result ℕ Fault) → Tells (suc i) ls r → Tells i (l ∷ ls) (both i y r)
   step i l ls (Ok a) e (Ok b) t =
       let head : part (yield l) ≡ a = ap part e in
       let cons = sum_by-cons (λ x. part (yield x)) l ls in
-      (yield-cons l ls (length ls) a e t.0, omega (arith, t.1))
+      (yield_cons l ls (length ls) a e t.0, omega (arith, t.1))
   step i l ls (Ok a) e (Err f) t =
       record {
         place = suc t.place;
         within = omega (arith, t.within);
         numbered = omega (arith, t.numbered);
         here = t.here;
-        before = yield-cons l ls t.place a e t.before;
+        before = yield_cons l ls t.place a e t.before;
       }
   step i l ls (Err c) e r t = record { place = 0; within = omega arith; numbered = omega arith; here = λ d. e; before = λ k d h. absurd (not-suc-le-zero h) }
 

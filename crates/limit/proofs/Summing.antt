@@ -29,18 +29,18 @@ module _ (yield : LineFields → Result ℕ Cause) (ls : List Line) (i : ℕ) (t
         let here : y ≡ yield (line_fields (get_or ls i l)) = e ∙ ap (λ m. yield (line_fields m)) read in
         ap (λ z. plus s (both (i + 1) z (summed yield (suc (i + 1)) (map line_fields (drop (i + 1) ls))))) here ∙ sym (ap (plus s) more) ∙ so_far
 
-    pub sum-next : (a : ℕ) → Ok a ≡ yield (line_fields l) → plus (s + a) (left yield ls (i + 1)) ≡ t
-    sum-next a e =
+    pub sum_next : (a : ℕ) → Ok a ≡ yield (line_fields l) → plus (s + a) (left yield ls (i + 1)) ≡ t
+    sum_next a e =
         let up : i + 1 + 1 ≡ suc (i + 1) = omega arith in
         ap (λ k. plus (s + a) (summed yield k (map line_fields (drop (i + 1) ls)))) up
         ∙ sym (plus_both s a (i + 1) (summed yield (suc (i + 1)) (map line_fields (drop (i + 1) ls))))
         ∙ next (Ok a) e
 
-    pub sum-fault : (c : Cause) → Err c ≡ yield (line_fields l) → Err (c, i + 1) ≡ t
-    sum-fault c e = next (Err c) e
+    pub sum_fault : (c : Cause) → Err c ≡ yield (line_fields l) → Err (c, i + 1) ≡ t
+    sum_fault c e = next (Err c) e
 
-  pub sum-all : length ls ≤ i → Ok s ≡ t
-  sum-all past =
+  pub sum_all : length ls ≤ i → Ok s ≡ t
+  sum_all past =
       let zero_left : s ≡ s + 0 = omega arith in
       let none : left yield ls i ≡ Ok 0 = at_drop_all (λ ms. summed yield (i + 1) (map line_fields ms)) ls i past in
       ap Ok zero_left ∙ sym (ap (plus s) none) ∙ so_far

@@ -4,7 +4,7 @@ use Rattle.filing.specs.declared.fields.LineFields.{LineFields}
 use Rattle.quantity.specs.Rounding.{nearest}
 use Rattle.standard.specs.Causes.{cause_number}
 use Rattle.standard.specs.declared.causes.Cause.{Cause}
-use Rattle.limit.specs.Outcome.{Told, limit, noLimit, fault}
+use Rattle.limit.specs.Outcome.{Told, limit, no_limit, fault}
 
 -- a cause, and the line, from 1
 abbrev pub Fault : Type 0
@@ -52,4 +52,4 @@ pub record FirstFault (yield : LineFields → Result ℕ Cause) (ls : List LineF
 abbrev pub Means : (LineFields → Result ℕ Cause) → List LineFields → Told → Type 0
 Means yield ls (limit n) = Yield yield ls (length ls) × (n ≡ nearest (sum_by (λ l. part (yield l)) ls) 10000000)
 Means yield ls (fault number line) = FirstFault yield ls number line
-Means yield ls (noLimit number) = ⊥
+Means yield ls (no_limit number) = ⊥

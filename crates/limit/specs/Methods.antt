@@ -8,14 +8,14 @@ use Rattle.standard.specs.Places.{Places, standing}
 use Rattle.standard.specs.declared.calculation.Calculation.{Calculation}
 use Rattle.standard.specs.declared.calculation.Calculation.TheVariants.{FromYears, Barred}
 use Rattle.limit.specs.Lines.{limit_of}
-use Rattle.limit.specs.Outcome.{Told, noLimit}
+use Rattle.limit.specs.Outcome.{Told, no_limit}
 
 -- 15 where nothing stands; 41 before 2019; 42 in an exempt year; else what the lines come to
 abbrev pub of_filing : Bool → Calculation → EnrolmentFields → Places → ℕ → Option FilingFields → Told
-of_filing free by e ps y None = noLimit 15
+of_filing free by e ps y None = no_limit 15
 of_filing free by e ps y (Some f) =
-    cond (nat_lt y 2019) (noLimit 41)
-    (cond free (noLimit 42) (limit_of (contribution by e ps y) f.lines))
+    cond (nat_lt y 2019) (no_limit 41)
+    (cond free (no_limit 42) (limit_of (contribution by e ps y) f.lines))
 
 abbrev pub industrial : EnrolmentFields → Places → ℕ → Told
 industrial e ps y = of_filing (exempt e y) FromYears e ps y (standing ps y)

@@ -9,7 +9,7 @@ use Rattle.limit.specs.declared.outcome.Outcome.TheVariants as outcome
 -- a limit with its whole tonnes; no limit, with the number of its cause; a fault, with the number of its cause and its line
 pub data Told : Type 0 where
   limit : ℕ → Told
-  noLimit : ℕ → Told
+  no_limit : ℕ → Told
   fault : ℕ → ℕ → Told
 
 abbrev pub no_limit_number : NoLimit → ℕ
@@ -24,5 +24,5 @@ no_limit_word Exempt = codes "exempt"
 
 abbrev pub told : Outcome → Told
 told (outcome.Limit t) = limit t.tonnes
-told (outcome.NoLimit c) = noLimit (no_limit_number c)
+told (outcome.NoLimit c) = no_limit (no_limit_number c)
 told (outcome.Fault c l) = fault (cause_number c) l

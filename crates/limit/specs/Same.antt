@@ -10,7 +10,7 @@ use Rattle.standard.specs.Places.{Places, standing, up_to}
 use Rattle.standard.specs.declared.calculation.Calculation.{Calculation}
 use Rattle.limit.specs.Methods.{of_filing}
 use Rattle.limit.specs.Lines.{limit_of}
-use Rattle.limit.specs.Outcome.{noLimit}
+use Rattle.limit.specs.Outcome.{no_limit}
 
 cond_same : {X : Type 0} (b : Bool) (x y z : X) → (b ≡ true → x ≡ y) → cond b x z ≡ cond b y z
 cond_same true x y z h = h refl
@@ -28,7 +28,7 @@ standing_same ps qs y e =
 filing_same : (free : Bool) (by : Calculation) (e : EnrolmentFields) (ps qs : Places) (y : ℕ) (o : Option FilingFields) → up_to y ps ≡ up_to y qs → of_filing free by e ps y o ≡ of_filing free by e qs y o
 unfolding contribution
 filing_same free by e ps qs y None h = refl
-filing_same free by e ps qs y (Some f) h = ap (λ (past : Places). cond (nat_lt y 2019) (noLimit 41) (cond free (noLimit 42) (limit_of (λ l. of_kind (kind_of l.kind) by e past y l) f.lines))) h
+filing_same free by e ps qs y (Some f) h = ap (λ (past : Places). cond (nat_lt y 2019) (no_limit 41) (cond free (no_limit 42) (limit_of (λ l. of_kind (kind_of l.kind) by e past y l) f.lines))) h
 
 pub outcome_same : (free : Bool) (by : Calculation) (e : EnrolmentFields) (ps qs : Places) (y : ℕ) → up_to y ps ≡ up_to y qs → of_filing free by e ps y (standing ps y) ≡ of_filing free by e qs y (standing qs y)
 outcome_same free by e ps qs y h = filing_same free by e ps qs y (standing ps y) h ∙ ap (of_filing free by e qs y) (standing_same ps qs y h)

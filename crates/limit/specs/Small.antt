@@ -31,7 +31,7 @@ use Rattle.standard.proofs.Yields.{product_small, yield_small, weighed_small as 
 use Rattle.limit.specs.Laws.{SoundAt, AtMost}
 use Rattle.limit.specs.Lines.{Fault, both, summed, in_tonnes, limit_of}
 use Rattle.limit.specs.Methods.{of_filing}
-use Rattle.limit.specs.Outcome.{Told, noLimit}
+use Rattle.limit.specs.Outcome.{Told, no_limit}
 
 no_line : LineFields
 no_line = record { kind = 0; number = 0; production = 0; standard = 0; attributed = 0; added = 0; ratio = 0 }
@@ -105,25 +105,25 @@ both_small i most (Ok a) (Err e) p q = tt
 both_small i most (Err c) b p q = tt
 
 module _ (yield : LineFields → Result ℕ Cause) where
-  summed-small : (i : ℕ) (ls : List LineFields) → All (λ l. Below 1000000000000000000 (yield l)) ls → Sum (length ls * 1000000000000000000) (summed yield i ls)
-  summed-small i [] h = omega arith
-  summed-small i (l ∷ ls) h =
+  summed_small : (i : ℕ) (ls : List LineFields) → All (λ l. Below 1000000000000000000 (yield l)) ls → Sum (length ls * 1000000000000000000) (summed yield i ls)
+  summed_small i [] h = omega arith
+  summed_small i (l ∷ ls) h =
       let one_more : 1000000000000000000 + length ls * 1000000000000000000 ≡ suc (length ls) * 1000000000000000000 = omega arith in
       subst (λ most. Sum most (summed yield i (l ∷ ls))) one_more
-      (both_small i (length ls * 1000000000000000000) (yield l) (summed yield (suc i) ls) h.0 (summed-small (suc i) ls h.1))
+      (both_small i (length ls * 1000000000000000000) (yield l) (summed yield (suc i) ls) h.0 (summed_small (suc i) ls h.1))
 
-  tonnes-small : (r : Result ℕ Fault) (n : ℕ) → n ≤ 6 → Sum (n * 1000000000000000000) r → AtMost (in_tonnes r)
-  tonnes-small (Ok s) n few h = nearest_within s 10000000 (nearest s 10000000) most_tonnes (omega arith) (omega arith) (nearest_near s 10000000 (omega arith))
-  tonnes-small (Err e) n few h = tt
+  tonnes_small : (r : Result ℕ Fault) (n : ℕ) → n ≤ 6 → Sum (n * 1000000000000000000) r → AtMost (in_tonnes r)
+  tonnes_small (Ok s) n few h = nearest_within s 10000000 (nearest s 10000000) most_tonnes (omega arith) (omega arith) (nearest_near s 10000000 (omega arith))
+  tonnes_small (Err e) n few h = tt
 
-  limit-small : (ls : List LineFields) → length ls ≤ 6 → All (λ l. Below 1000000000000000000 (yield l)) ls → AtMost (limit_of yield ls)
+  limit_small : (ls : List LineFields) → length ls ≤ 6 → All (λ l. Below 1000000000000000000 (yield l)) ls → AtMost (limit_of yield ls)
   unfolding limit_of
-  limit-small ls few h = tonnes-small (summed yield 1 ls) (length ls) few (summed-small 1 ls h)
+  limit_small ls few h = tonnes_small (summed yield 1 ls) (length ls) few (summed_small 1 ls h)
 
 lines_small : (by : Calculation) (e : EnrolmentFields) (ps : Places) (y : ℕ) (f : FilingFields) → Sound f → AtMost (limit_of (contribution by e ps y) f.lines)
-lines_small by e ps y f s = limit-small (contribution by e ps y) f.lines s.few (All-from_get_or (λ l. Below 1000000000000000000 (contribution by e ps y l)) f.lines no_line (λ i h. contribution_small by e ps y (slice_index_or f.lines i no_line) (s.lines i no_line h)))
+lines_small by e ps y f s = limit_small (contribution by e ps y) f.lines s.few (All-from_get_or (λ l. Below 1000000000000000000 (contribution by e ps y l)) f.lines no_line (λ i h. contribution_small by e ps y (slice_index_or f.lines i no_line) (s.lines i no_line h)))
 
-chosen_small : (b c : Bool) (t : Told) → AtMost t → AtMost (cond b (noLimit 41) (cond c (noLimit 42) t))
+chosen_small : (b c : Bool) (t : Told) → AtMost t → AtMost (cond b (no_limit 41) (cond c (no_limit 42) t))
 chosen_small true c t h = tt
 chosen_small false true t h = tt
 chosen_small false false t h = h

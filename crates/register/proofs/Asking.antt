@@ -20,30 +20,30 @@ use Rattle.register.specs.declared.refusals.Refusal.{Refusal}
 use Rattle.register.specs.declared.refusals.Refusal.TheVariants.{Unknown}
 use Rattle.register.specs.declared.table.Plant.{Plant}
 use Rattle.register.specs.declared.table.Register.{Register}
-use Rattle.register.proofs.Deeds.{acted-lives}
-use Rattle.register.proofs.Keeping.{check_holds, check_passes, refused-lives}
-use Rattle.register.proofs.Plain.{no-year, enrolled-yes, enrolled-no}
+use Rattle.register.proofs.Deeds.{acted_lives}
+use Rattle.register.proofs.Keeping.{check_holds, check_passes, refused_lives}
+use Rattle.register.proofs.Plain.{no_year, enrolled_yes, enrolled_no}
 use Rattle.register.proofs.Rows.{place_of}
 
 module _ {M : Type 0} (μ : M → Meaning) (m : M) (r : Register M) (es : List Event) (H : Holds μ m r es) where
   -- the places of a history at any year
-  history-stands : (f y : ℕ) → standing (places_of es f) y ≡ standing_at es f y
-  history-stands f y =
+  history_stands : (f y : ℕ) → standing (places_of es f) y ≡ standing_at es f y
+  history_stands f y =
       ⊎_elim
       (λ (t : between 2017 2036 y ≡ true).
       let p = and_parts (leb 2017 y) (leb y 2036) t in
       cond-true (leb 2017 y && leb y 2036) (get_or (places_of es f) (y - 2017) None) None t
       ∙ place_of es f y None (leb-true 2017 y p.0) (leb-true y 2036 p.1))
       (λ (t : between 2017 2036 y ≡ false).
-      cond-false (leb 2017 y && leb y 2036) (get_or (places_of es f) (y - 2017) None) None t ∙ sym (no-year μ m r es H f y t))
+      cond-false (leb 2017 y && leb y 2036) (get_or (places_of es f) (y - 2017) None) None t ∙ sym (no_year μ m r es H f y t))
       (cases_Bool (between 2017 2036 y))
 
   -- the facility's own part of the table
-  abbrev pub plant-at : ℕ → Plant
-  plant-at f = get_or r.plants (f - 1) blank_plant
+  abbrev pub plant_at : ℕ → Plant
+  plant_at f = get_or r.plants (f - 1) blank_plant
 
-  pub plant-read : (f : ℕ) → 1 ≤ f → f ≤ 4 → plant-at f ≡ get_or r.plants (f - 1) (plant-at f)
-  plant-read f lo hi = get_or_default r.plants (f - 1) blank_plant (plant-at f) (omega (arith, H.four))
+  pub plant_read : (f : ℕ) → 1 ≤ f → f ≤ 4 → plant_at f ≡ get_or r.plants (f - 1) (plant_at f)
+  plant_read f lo hi = get_or_default r.plants (f - 1) blank_plant (plant_at f) (omega (arith, H.four))
 
   pub absent_none : (f : ℕ) → Absent r f → enrolment_of es f ≡ None
   absent_none f absent =
@@ -52,74 +52,74 @@ module _ {M : Type 0} (μ : M → Meaning) (m : M) (r : Register M) (es : List E
       let p = and_parts (leb 1 f) (leb f 4) t in
       let lo = leb-true 1 f p.0 in
       let hi = leb-true f 4 p.1 in
-      enrolled-no μ m r es H f lo hi (plant-at f) (plant-read f lo hi) (absent lo hi (plant-at f) (plant-read f lo hi)))
+      enrolled_no μ m r es H f lo hi (plant_at f) (plant_read f lo hi) (absent lo hi (plant_at f) (plant_read f lo hi)))
       (λ (t : between 1 4 f ≡ false). H.no-others f t)
       (cases_Bool (between 1 4 f))
 
   module _ (f y : ℕ) (e : Enrolment) (p : Option Signed) (placed : Placed r f y e p) where
-    pub placed-read : plant-at f ≡ get_or r.plants (f - 1) (plant-at f)
-    placed-read = plant-read f placed.low placed.high
+    pub placed_read : plant_at f ≡ get_or r.plants (f - 1) (plant_at f)
+    placed_read = plant_read f placed.low placed.high
 
-    pub placed-enrolled : is_some (enrolment_of es f) ≡ true
-    placed-enrolled = enrolled-yes μ m r es H f placed.low placed.high (plant-at f) placed-read e (placed.enrolment (plant-at f) placed-read)
+    pub placed_enrolled : is_some (enrolment_of es f) ≡ true
+    placed_enrolled = enrolled_yes μ m r es H f placed.low placed.high (plant_at f) placed_read e (placed.enrolment (plant_at f) placed_read)
 
-    pub placed-stands : filing_at p ≡ standing_at es f y
-    placed-stands =
-        placed.stands (plant-at f) placed-read
-        ∙ ap (λ (ps : Places). standing ps y) (H.plants-are f placed.low placed.high (plant-at f) placed-read).places-are
-        ∙ history-stands f y
+    pub placed_stands : filing_at p ≡ standing_at es f y
+    placed_stands =
+        placed.stands (plant_at f) placed_read
+        ∙ ap (λ (ps : Places). standing ps y) (H.plants-are f placed.low placed.high (plant_at f) placed_read).places_are
+        ∙ history_stands f y
 
 -- a call that asks first for the enrolment of f, and then for one thing more
 module _ {M : Type 0} (μ : M → Meaning) (m : M) (r : Register M) (c : CallFields) (cs : List CallFields) (L : Lived μ m r cs) (f : ℕ) (second : Check) (asks : checks c (accepted cs) ≡ unknown (accepted cs) f ∷ second ∷ book_full (accepted cs) ∷ spent (accepted cs) ∷ []) where
-  answered-refused : (w : Refusal) → refusal_of c (accepted cs) ≡ Some w → Lived μ m r (c ∷ cs) × (refused (refusal_told w) ≡ answer_to (μ m) c cs)
-  answered-refused w why = (refused-lives μ m r c cs w why L, sym (ap (λ o. answer_by o (granted (μ m) c (accepted cs))) why))
+  answered_refused : (w : Refusal) → refusal_of c (accepted cs) ≡ Some w → Lived μ m r (c ∷ cs) × (refused (refusal_told w) ≡ answer_to (μ m) c cs)
+  answered_refused w why = (refused_lives μ m r c cs w why L, sym (ap (λ o. answer_by o (granted (μ m) c (accepted cs))) why))
 
-  pub asked-unknown : Absent r f → Lived μ m r (c ∷ cs) × (refused (refusal_told Unknown) ≡ answer_to (μ m) c cs)
-  asked-unknown absent =
-      answered-refused Unknown
+  pub asked_unknown : Absent r f → Lived μ m r (c ∷ cs) × (refused (refusal_told Unknown) ≡ answer_to (μ m) c cs)
+  asked_unknown absent =
+      answered_refused Unknown
       (ap first_of asks ∙ check_holds (unknown (accepted cs) f) (second ∷ book_full (accepted cs) ∷ spent (accepted cs) ∷ []) (ap (λ o. not (is_some o)) (absent_none μ m r (accepted cs) L f absent)))
 
   module _ (known : is_some (enrolment_of (accepted cs) f) ≡ true) where
     passed : refusal_of c (accepted cs) ≡ first_of (second ∷ book_full (accepted cs) ∷ spent (accepted cs) ∷ [])
     passed = ap first_of asks ∙ check_passes (unknown (accepted cs) f) (second ∷ book_full (accepted cs) ∷ spent (accepted cs) ∷ []) (ap not known)
 
-    pub asked-second : second.0 ≡ true → Lived μ m r (c ∷ cs) × (refused (refusal_told second.1) ≡ answer_to (μ m) c cs)
-    asked-second holds = answered-refused second.1 (passed ∙ check_holds second (book_full (accepted cs) ∷ spent (accepted cs) ∷ []) holds)
+    pub asked_second : second.0 ≡ true → Lived μ m r (c ∷ cs) × (refused (refusal_told second.1) ≡ answer_to (μ m) c cs)
+    asked_second holds = answered_refused second.1 (passed ∙ check_holds second (book_full (accepted cs) ∷ spent (accepted cs) ∷ []) holds)
 
-    pub asked-passes : second.0 ≡ false → refusal_of c (accepted cs) ≡ first_of (book_full (accepted cs) ∷ spent (accepted cs) ∷ [])
-    asked-passes fails = passed ∙ check_passes second (book_full (accepted cs) ∷ spent (accepted cs) ∷ []) fails
+    pub asked_passes : second.0 ≡ false → refusal_of c (accepted cs) ≡ first_of (book_full (accepted cs) ∷ spent (accepted cs) ∷ [])
+    asked_passes fails = passed ∙ check_passes second (book_full (accepted cs) ∷ spent (accepted cs) ∷ []) fails
 
 -- an act that nothing refuses but the undo log and the numbers
 module _ {M : Type 0} (μ : M → Meaning) (later : (m : M) → Later (μ m)) (m : M) (r s : Register M) (c : CallFields) (cs : List CallFields) (L : Lived μ m r cs) (a : Act) (does : event_of c ≡ Some (acts a)) (grants : granted (μ m) c (accepted cs) ≡ numbered (numbers (accepted cs) + 1)) (second : Check) (asks : checks c (accepted cs) ≡ unknown (accepted cs) a.facility ∷ second ∷ book_full (accepted cs) ∷ spent (accepted cs) ∷ []) (e : Enrolment) (old v : Option Signed) (placed : Placed r a.facility a.year e old) (low : 2017 ≤ a.year) (high : a.year ≤ 2036) (passes : second.0 ≡ false) (v-is : filing_at v ≡ a.leaves) where
-  pub asked-acts : (ans : Result ℕ Refusal) → Acted μ r s a.facility a.year e old v ans → Lived μ m s (c ∷ cs) × (number_answer ans ≡ answer_to (μ m) c cs)
-  asked-acts ans did =
-      let read = placed-read μ m r (accepted cs) L a.facility a.year e old placed in
-      let known = placed-enrolled μ m r (accepted cs) L a.facility a.year e old placed in
-      let d = plant-at μ m r (accepted cs) L a.facility in
+  pub asked_acts : (ans : Result ℕ Refusal) → Acted μ r s a.facility a.year e old v ans → Lived μ m s (c ∷ cs) × (number_answer ans ≡ answer_to (μ m) c cs)
+  asked_acts ans did =
+      let read = placed_read μ m r (accepted cs) L a.facility a.year e old placed in
+      let known = placed_enrolled μ m r (accepted cs) L a.facility a.year e old placed in
+      let d = plant_at μ m r (accepted cs) L a.facility in
       let done =
-      acted-lives μ later m r s a placed.low placed.high low high d read e (placed.enrolment d read) old v v-is c cs L does
-      (asked-passes μ m r c cs L a.facility second asks known passes)
-      (placed-stands μ m r (accepted cs) L a.facility a.year e old placed) ans did
+      acted_lives μ later m r s a placed.low placed.high low high d read e (placed.enrolment d read) old v v-is c cs L does
+      (asked_passes μ m r c cs L a.facility second asks known passes)
+      (placed_stands μ m r (accepted cs) L a.facility a.year e old placed) ans did
       in
       (done.0, done.1 ∙ sym (ap (answer_by (refusal_of c (accepted cs))) grants))
 
 -- a filing for the facility f and the year y
 module _ (x : FilingFields) (f y : ℕ) (f-is : f ≡ x.head.facility) (y-is : y ≡ x.head.year) where
-  abbrev pub actOf : Act
-  actOf = record { facility = f; year = y; leaves = Some x }
+  abbrev pub act_of : Act
+  act_of = record { facility = f; year = y; leaves = Some x }
 
-  pub filing-does : Some (acts (filing_act x)) ≡ Some (acts actOf)
-  filing-does =
+  pub filing_does : Some (acts (filing_act x)) ≡ Some (acts act_of)
+  filing_does =
       ap (λ (g : ℕ). Some (acts (record { facility = g; year = x.head.year; leaves = Some x }))) (sym f-is)
       ∙ ap (λ (z : ℕ). Some (acts (record { facility = f; year = z; leaves = Some x }))) (sym y-is)
 
-  pub file-asks : (es : List Event) → checks (file x) es ≡ unknown es f ∷ stands es f y ∷ book_full es ∷ spent es ∷ []
-  file-asks es =
+  pub file_asks : (es : List Event) → checks (file x) es ≡ unknown es f ∷ stands es f y ∷ book_full es ∷ spent es ∷ []
+  file_asks es =
       ap (λ (g : ℕ). unknown es g ∷ stands es g x.head.year ∷ book_full es ∷ spent es ∷ []) (sym f-is)
       ∙ ap (λ (z : ℕ). unknown es f ∷ stands es f z ∷ book_full es ∷ spent es ∷ []) (sym y-is)
 
-  pub amend-asks : (es : List Event) → checks (amend x) es ≡ unknown es f ∷ vacant es f y ∷ book_full es ∷ spent es ∷ []
-  amend-asks es =
+  pub amend_asks : (es : List Event) → checks (amend x) es ≡ unknown es f ∷ vacant es f y ∷ book_full es ∷ spent es ∷ []
+  amend_asks es =
       ap (λ (g : ℕ). unknown es g ∷ vacant es g x.head.year ∷ book_full es ∷ spent es ∷ []) (sym f-is)
       ∙ ap (λ (z : ℕ). unknown es f ∷ vacant es f z ∷ book_full es ∷ spent es ∷ []) (sym y-is)
 
@@ -129,5 +129,5 @@ filing_some (Some s) = refl
 
 -- whether something stands, from what was read
 module _ {M : Type 0} (μ : M → Meaning) (m : M) (r : Register M) (es : List Event) (H : Holds μ m r es) (f y : ℕ) (e : Enrolment) (p : Option Signed) (placed : Placed r f y e p) where
-  pub stands-as-read : (b : Bool) → b ≡ is_some p → is_some (standing_at es f y) ≡ b
-  stands-as-read b is = sym (ap is_some (placed-stands μ m r es H f y e p placed)) ∙ filing_some p ∙ sym is
+  pub stands_as_read : (b : Bool) → b ≡ is_some p → is_some (standing_at es f y) ≡ b
+  stands_as_read b is = sym (ap is_some (placed_stands μ m r es H f y e p placed)) ∙ filing_some p ∙ sym is

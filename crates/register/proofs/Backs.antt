@@ -7,7 +7,7 @@ use Rattle.enrolment.specs.declared.enrolment.Enrolment.{Enrolment}
 use Rattle.limit.specs.Laws.{Meaning, Later}
 use Rattle.standard.specs.Places.{filing_at}
 use Rattle.register.specs.Acceptance.{refusal_of, bare, spent}
-use Rattle.register.specs.Calls.{takeBack, Act, Event, takesBack}
+use Rattle.register.specs.Calls.{take_back, Act, Event, takes_back}
 use Rattle.register.specs.History.{left_by, enrolment_of, numbers}
 use Rattle.register.specs.Lived.{Holds, Known, logged_acts}
 use Rattle.register.specs.Steps.{Refit}
@@ -17,9 +17,9 @@ use Rattle.register.specs.declared.log.Entry.{Entry}
 use Rattle.register.specs.declared.table.Plant.{Plant}
 use Rattle.register.specs.declared.table.Register.{Register}
 use Rattle.register.proofs.Keeping.{check_passes}
-use Rattle.register.proofs.Plain.{known_on, not-bare, not-spent, enrolled-no}
+use Rattle.register.proofs.Plain.{known_on, not_bare, not_spent, enrolled_no}
 use Rattle.register.proofs.Refills.{Refills, tail, open_tail, take_back_refills}
-use Rattle.register.proofs.Refits.{refit-lives}
+use Rattle.register.proofs.Refits.{refit_lives}
 
 -- a list that is not empty
 uncons : (l : List Act) → (length l ≡ 0 → ⊥) → (a : Act) × ((more : List Act) × (l ≡ a ∷ more))
@@ -31,8 +31,8 @@ module _ {M : Type 0} (μ : M → Meaning) (m : M) (r : Register M) (es : List E
   newest : (a : Act) × ((more : List Act) × (undo_log es ≡ a ∷ more))
   newest = uncons (undo_log es) (λ h. full (H.log-len ∙ h))
 
-  pub taken-unrefused : r.used < 1000000 → refusal_of takeBack es ≡ None
-  taken-unrefused h = check_passes (bare es) (spent es ∷ []) (not-bare μ m r es H full) ∙ check_passes (spent es) [] (not-spent μ m r es H h)
+  pub taken_unrefused : r.used < 1000000 → refusal_of take_back es ≡ None
+  taken_unrefused h = check_passes (bare es) (spent es ∷ []) (not_bare μ m r es H full) ∙ check_passes (spent es) [] (not_spent μ m r es H h)
 
   module _ (entry : Entry) (rest : List Entry) (items : vec_items r.log.entries ≡ rest ++ (entry ∷ [])) where
     -- the entry is that act
@@ -43,40 +43,40 @@ module _ {M : Type 0} (μ : M → Meaning) (m : M) (r : Register M) (es : List E
         same_from_push (map logged rest) (logged_acts more (closed_acts es)) (logged entry) (record { facility = a.facility; year = a.year; before = left_by (more ++ closed_acts es) a.facility a.year })
         (sym (map-append logged rest (entry ∷ [])) ∙ sym (ap (map logged) items) ∙ H.log_is ∙ ap (λ (l : List Act). logged_acts l (closed_acts es)) newest.1.1)
 
-    known-all : All (Known es) (newest.0 ∷ newest.1.0 ++ closed_acts es)
-    known-all = subst (λ (l : List Act). All (Known es) (l ++ closed_acts es)) newest.1.1 H.known
+    known_all : All (Known es) (newest.0 ∷ newest.1.0 ++ closed_acts es)
+    known_all = subst (λ (l : List Act). All (Known es) (l ++ closed_acts es)) newest.1.1 H.known
 
     -- its facility is enrolled
-    pub taken-known : (d : Plant) → d ≡ get_or r.plants (entry.facility - 1) d → d.enrolment ≡ None → ⊥
-    taken-known d d-is none =
+    pub taken_known : (d : Plant) → d ≡ get_or r.plants (entry.facility - 1) d → d.enrolment ≡ None → ⊥
+    taken_known d d-is none =
         let here : entry.facility ≡ newest.0.facility = ap (λ (l : Logged). l.facility) lines.1 in
         let in_range = entry.facility_range in
-        true≢false (sym (ap (λ (f : ℕ). is_some (enrolment_of es f)) here ∙ known-all.0.is-enrolled) ∙ ap is_some (enrolled-no μ m r es H entry.facility in_range.0 in_range.1 d d-is none))
+        true≢false (sym (ap (λ (f : ℕ). is_some (enrolment_of es f)) here ∙ known_all.0.is_enrolled) ∙ ap is_some (enrolled_no μ m r es H entry.facility in_range.0 in_range.1 d d-is none))
 
-    pub taken-holds : ((m : M) → Later (μ m)) → (s : Register M) → vec_items s.log.entries ≡ rest → vec_len s.log.entries + 1 ≡ vec_len r.log.entries → (d : Plant) → d ≡ get_or r.plants (entry.facility - 1) d → (e : Enrolment) → d.enrolment ≡ Some e → (n : ℕ) → n ≡ r.used + 1 → s.used ≡ n → s.method ≡ r.method → Refit (μ r.method) r.plants s.plants entry.facility entry.year e entry.before n → Holds μ m s (takesBack ∷ es) × (n ≡ numbers es + 1)
-    taken-holds later s left len d d-is e enrolment n number used method refit =
+    pub taken_holds : ((m : M) → Later (μ m)) → (s : Register M) → vec_items s.log.entries ≡ rest → vec_len s.log.entries + 1 ≡ vec_len r.log.entries → (d : Plant) → d ≡ get_or r.plants (entry.facility - 1) d → (e : Enrolment) → d.enrolment ≡ Some e → (n : ℕ) → n ≡ r.used + 1 → s.used ≡ n → s.method ≡ r.method → Refit (μ r.method) r.plants s.plants entry.facility entry.year e entry.before n → Holds μ m s (takes_back ∷ es) × (n ≡ numbers es + 1)
+    taken_holds later s left len d d-is e enrolment n number used method refit =
         let f = entry.facility in
         let y = entry.year in
         let a = newest.0 in
         let more = newest.1.0 in
         let h = newest.1.1 in
-        let after : undo_log (takesBack ∷ es) ≡ more = open_tail 0 es ∙ ap tail h in
+        let after : undo_log (takes_back ∷ es) ≡ more = open_tail 0 es ∙ ap tail h in
         let counted : n ≡ numbers es + 1 = number ∙ ap (λ (i : ℕ). i + 1) H.used-is in
-        let events₀ : Refills es (takesBack ∷ es) f y (filing_at entry.before) (numbers es + 1) = subst (λ (l : Logged). Refills es (takesBack ∷ es) l.facility l.year l.before (numbers es + 1)) (sym lines.1) (take_back_refills es a more h) in
-        let events : Refills es (takesBack ∷ es) f y (filing_at entry.before) n = subst (λ (i : ℕ). Refills es (takesBack ∷ es) f y (filing_at entry.before) i) (sym counted) events₀ in
+        let events₀ : Refills es (takes_back ∷ es) f y (filing_at entry.before) (numbers es + 1) = subst (λ (l : Logged). Refills es (takes_back ∷ es) l.facility l.year l.before (numbers es + 1)) (sym lines.1) (take_back_refills es a more h) in
+        let events : Refills es (takes_back ∷ es) f y (filing_at entry.before) n = subst (λ (i : ℕ). Refills es (takes_back ∷ es) f y (filing_at entry.before) i) (sym counted) events₀ in
         let fit : Refit (μ m) r.plants s.plants f y e entry.before n = subst (λ (x : M). Refit (μ x) r.plants s.plants f y e entry.before n) H.method-is refit in (
           record {
-            method-is = method ∙ H.method-is;
+            method_is = method ∙ H.method-is;
             four = refit.long ∙ H.four;
-            used-is = used ∙ counted;
+            used_is = used ∙ counted;
             log_is = ap (map logged) left ∙ lines.0 ∙ sym (ap (λ (l : List Act). logged_acts l (closed_acts es)) after);
-            log-len =
+            log_len =
                 let long : length (undo_log es) ≡ suc (length more) = ap length h in
-                let short : length (undo_log (takesBack ∷ es)) ≡ length more = ap length after in
+                let short : length (undo_log (takes_back ∷ es)) ≡ length more = ap length after in
                 omega (arith, H.log-len, long, short, len);
-            plants-are = refit-lives (μ m) (later m) es (takesBack ∷ es) r.plants s.plants f y e entry.before n entry.year_range.0 entry.year_range.1 events fit H.plants-are d d-is enrolment entry.facility_range.0;
-            known = subst (λ (l : List Act). All (Known (takesBack ∷ es)) (l ++ closed_acts es)) (sym after) (known_on es (takesBack ∷ es) (λ g k. k) (more ++ closed_acts es) known-all.1);
-            no-others = H.no-others;
+            plants_are = refit_lives (μ m) (later m) es (takes_back ∷ es) r.plants s.plants f y e entry.before n entry.year_range.0 entry.year_range.1 events fit H.plants-are d d-is enrolment entry.facility_range.0;
+            known = subst (λ (l : List Act). All (Known (takes_back ∷ es)) (l ++ closed_acts es)) (sym after) (known_on es (takes_back ∷ es) (λ g k. k) (more ++ closed_acts es) known_all.1);
+            no_others = H.no-others;
           },
           counted,
         )

@@ -17,36 +17,36 @@ use Rattle.register.specs.declared.refusals.Refusal.{Refusal}
 use Rattle.register.specs.declared.refusals.Refusal.TheVariants.{Unknown, Enrolled, Enrolment as BadEnrolment, Stands, Vacant, Book, Bare, Spent}
 use Rattle.register.specs.declared.table.Plant.{Plant}
 use Rattle.register.specs.declared.table.Register.{Register}
-use Rattle.register.proofs.Keeping.{check_holds, check_passes, refused-lives, accepted-lives}
-use Rattle.register.proofs.Plain.{known_on, not_full, is-full, not-spent, is-spent, enrolled-yes}
+use Rattle.register.proofs.Keeping.{check_holds, check_passes, refused_lives, accepted_lives}
+use Rattle.register.proofs.Plain.{known_on, not_full, is_full, not_spent, is_spent, enrolled_yes}
 use Rattle.register.proofs.Refills.{Refills, act_refills}
-use Rattle.register.proofs.Refits.{refit-lives}
+use Rattle.register.proofs.Refits.{refit_lives}
 
 module _ {M : Type 0} (μ : M → Meaning) where
   -- a refused act leaves the register as it was
-  pub acted-refused : (r s : Register M) (f y : ℕ) (e : Enrolment) (old v : Option Signed) (ans : Result ℕ Refusal) → Acted μ r s f y e old v ans → IfErr ans (λ _. s ≡ r)
-  acted-refused r s f y e old v (Ok n) D = tt
-  acted-refused r s f y e old v (Err w) D = D.0
+  pub acted_refused : (r s : Register M) (f y : ℕ) (e : Enrolment) (old v : Option Signed) (ans : Result ℕ Refusal) → Acted μ r s f y e old v ans → IfErr ans (λ _. s ≡ r)
+  acted_refused r s f y e old v (Ok n) D = tt
+  acted_refused r s f y e old v (Err w) D = D.0
 
   module _ (later : (m : M) → Later (μ m)) (m : M) (r s : Register M) (a : Act) (f-low : 1 ≤ a.facility) (f-high : a.facility ≤ 4) (low : 2017 ≤ a.year) (high : a.year ≤ 2036) (d : Plant) (d-is : d ≡ get_or r.plants (a.facility - 1) d) (e : Enrolment) (enrolment : d.enrolment ≡ Some e) (old v : Option Signed) (v-is : filing_at v ≡ a.leaves) where
-    pub done-holds : (es : List Event) → Holds μ m r es → filing_at old ≡ standing_at es a.facility a.year → (n : ℕ) → Done μ r s a.facility a.year e old v n → Holds μ m s (acts a ∷ es) × (n ≡ numbers es + 1)
+    pub done_holds : (es : List Event) → Holds μ m r es → filing_at old ≡ standing_at es a.facility a.year → (n : ℕ) → Done μ r s a.facility a.year e old v n → Holds μ m s (acts a ∷ es) × (n ≡ numbers es + 1)
     unfolding standing_at
-    done-holds es H old-is n D =
+    done_holds es H old-is n D =
         let number : n ≡ numbers es + 1 = D.number ∙ ap (λ (i : ℕ). i + 1) H.used-is in
         let events₀ : Refills es (acts a ∷ es) a.facility a.year (filing_at v) (numbers es + 1) = subst (λ (o : Option FilingFields). Refills es (acts a ∷ es) a.facility a.year o (numbers es + 1)) (sym v-is) (act_refills es a) in
         let events : Refills es (acts a ∷ es) a.facility a.year (filing_at v) n = subst (λ (i : ℕ). Refills es (acts a ∷ es) a.facility a.year (filing_at v) i) (sym number) events₀ in
         let fit : Refit (μ m) r.plants s.plants a.facility a.year e v n = subst (λ (x : M). Refit (μ x) r.plants s.plants a.facility a.year e v n) H.method-is D.refit in
         let L : Option FilingFields → List Logged = λ o. record { facility = a.facility; year = a.year; before = o } ∷ [] in (
           record {
-            method-is = D.method ∙ H.method-is;
+            method_is = D.method ∙ H.method-is;
             four = D.refit.long ∙ H.four;
-            used-is = D.used ∙ number;
+            used_is = D.used ∙ number;
             log_is = D.log ∙ ap (λ (l : List Logged). l ++ L (filing_at old)) H.log_is ∙ ap (λ (o : Option FilingFields). logged_acts (undo_log es) (closed_acts es) ++ L o) old-is;
-            log-len = omega (arith, D.log-len, H.log-len);
-            plants-are = refit-lives (μ m) (later m) es (acts a ∷ es) r.plants s.plants a.facility a.year e v n low high events fit H.plants-are d d-is enrolment f-low;
+            log_len = omega (arith, D.log-len, H.log-len);
+            plants_are = refit_lives (μ m) (later m) es (acts a ∷ es) r.plants s.plants a.facility a.year e v n low high events fit H.plants-are d d-is enrolment f-low;
             known = known_on es (acts a ∷ es) (λ f h. h) (unstruck (acts a ∷ es))
-                (record { is-enrolled = enrolled-yes μ m r es H a.facility f-low f-high d d-is e enrolment; from = low; to = high }, H.known);
-            no-others = H.no-others;
+                (record { is_enrolled = enrolled_yes μ m r es H a.facility f-low f-high d d-is e enrolment; from = low; to = high }, H.known);
+            no_others = H.no-others;
           },
           number,
         )
@@ -56,25 +56,25 @@ module _ {M : Type 0} (μ : M → Meaning) where
       abbrev Answers : Result ℕ Refusal → Type 0
       Answers ans = number_answer ans ≡ answer_by (refusal_of c (accepted cs)) (numbered (numbers (accepted cs) + 1))
 
-      refused-so : (w : Refusal) → s ≡ r → refusal_of c (accepted cs) ≡ Some w → Lived μ m s (c ∷ cs) × Answers (Err w)
-      refused-so w same why =
-          (subst (λ (x : Register M). Lived μ m x (c ∷ cs)) (sym same) (refused-lives μ m r c cs w why L), sym (ap (λ (o : Option Refusal). answer_by o (numbered (numbers (accepted cs) + 1))) why))
+      refused_so : (w : Refusal) → s ≡ r → refusal_of c (accepted cs) ≡ Some w → Lived μ m s (c ∷ cs) × Answers (Err w)
+      refused_so w same why =
+          (subst (λ (x : Register M). Lived μ m x (c ∷ cs)) (sym same) (refused_lives μ m r c cs w why L), sym (ap (λ (o : Option Refusal). answer_by o (numbered (numbers (accepted cs) + 1))) why))
 
-      pub acted-lives : (ans : Result ℕ Refusal) → Acted μ r s a.facility a.year e old v ans → Lived μ m s (c ∷ cs) × (number_answer ans ≡ answer_by (refusal_of c (accepted cs)) (numbered (numbers (accepted cs) + 1)))
-      acted-lives (Ok n) D =
+      pub acted_lives : (ans : Result ℕ Refusal) → Acted μ r s a.facility a.year e old v ans → Lived μ m s (c ∷ cs) × (number_answer ans ≡ answer_by (refusal_of c (accepted cs)) (numbered (numbers (accepted cs) + 1)))
+      acted_lives (Ok n) D =
           let es = accepted cs in
-          let none : refusal_of c es ≡ None = refuses ∙ check_passes (book_full es) (spent es ∷ []) (not_full μ m r es L D.room) ∙ check_passes (spent es) [] (not-spent μ m r es L D.unspent) in
-          let done = done-holds es L old-is n D in
-          (accepted-lives μ m s c cs (acts a) none does done.0, ap numbered done.1 ∙ sym (ap (λ (o : Option Refusal). answer_by o (numbered (numbers es + 1))) none))
-      acted-lives (Err Book) D =
+          let none : refusal_of c es ≡ None = refuses ∙ check_passes (book_full es) (spent es ∷ []) (not_full μ m r es L D.room) ∙ check_passes (spent es) [] (not_spent μ m r es L D.unspent) in
+          let done = done_holds es L old-is n D in
+          (accepted_lives μ m s c cs (acts a) none does done.0, ap numbered done.1 ∙ sym (ap (λ (o : Option Refusal). answer_by o (numbered (numbers es + 1))) none))
+      acted_lives (Err Book) D =
           let es = accepted cs in
-          refused-so Book D.0 (refuses ∙ check_holds (book_full es) (spent es ∷ []) (is-full μ m r es L D.1))
-      acted-lives (Err Spent) D =
+          refused_so Book D.0 (refuses ∙ check_holds (book_full es) (spent es ∷ []) (is_full μ m r es L D.1))
+      acted_lives (Err Spent) D =
           let es = accepted cs in
-          refused-so Spent D.0 (refuses ∙ check_passes (book_full es) (spent es ∷ []) (not_full μ m r es L D.1.0) ∙ check_holds (spent es) [] (is-spent μ m r es L D.1.1))
-      acted-lives (Err Unknown) D = absurd D.1
-      acted-lives (Err Enrolled) D = absurd D.1
-      acted-lives (Err BadEnrolment) D = absurd D.1
-      acted-lives (Err Stands) D = absurd D.1
-      acted-lives (Err Vacant) D = absurd D.1
-      acted-lives (Err Bare) D = absurd D.1
+          refused_so Spent D.0 (refuses ∙ check_passes (book_full es) (spent es ∷ []) (not_full μ m r es L D.1.0) ∙ check_holds (spent es) [] (is_spent μ m r es L D.1.1))
+      acted_lives (Err Unknown) D = absurd D.1
+      acted_lives (Err Enrolled) D = absurd D.1
+      acted_lives (Err BadEnrolment) D = absurd D.1
+      acted_lives (Err Stands) D = absurd D.1
+      acted_lives (Err Vacant) D = absurd D.1
+      acted_lives (Err Bare) D = absurd D.1

@@ -4,7 +4,7 @@ use Rattle.std.proofs.lemmas.Bool.{cond-false, eqb-true, cases_Bool}
 use Rattle.enrolment.specs.Ranges.{in_ranges}
 use Rattle.enrolment.specs.declared.fields.EnrolmentFields.{EnrolmentFields}
 use Rattle.register.specs.Acceptance.{refusal_of, added, accepted}
-use Rattle.register.specs.Calls.{CallFields, enrol, file, amend, withdraw, takeBack, close, lookUp, Event, enrols, acts, takesBack, closes, event_of}
+use Rattle.register.specs.Calls.{CallFields, enrol, file, amend, withdraw, take_back, close, look_up, Event, enrols, acts, takes_back, closes, event_of}
 use Rattle.register.specs.History.{enrolment_of}
 use Rattle.register.specs.declared.refusals.Refusal.{Refusal}
 use Rattle.register.specs.declared.refusals.Refusal.TheVariants.{Enrolled, Enrolment}
@@ -15,7 +15,7 @@ abbrev Fresh : List Event → Type 0
 Fresh [] = Unit {0}
 Fresh (enrols e ∷ es) = (enrolment_of es e.facility ≡ None) × Fresh es
 Fresh (acts a ∷ es) = Fresh es
-Fresh (takesBack ∷ es) = Fresh es
+Fresh (takes_back ∷ es) = Fresh es
 Fresh (closes ∷ es) = Fresh es
 
 -- an enrolment that is accepted is the first
@@ -30,9 +30,9 @@ fresh_added (enrol e) es None h k = (first_one (not (in_ranges e)) (enrolment_of
 fresh_added (file f) es None h k = k
 fresh_added (amend f) es None h k = k
 fresh_added (withdraw f y) es None h k = k
-fresh_added takeBack es None h k = k
+fresh_added take_back es None h k = k
 fresh_added close es None h k = k
-fresh_added (lookUp f y) es None h k = k
+fresh_added (look_up f y) es None h k = k
 
 accepted_fresh : (cs : List CallFields) → Fresh (accepted cs)
 accepted_fresh [] = tt
@@ -47,7 +47,7 @@ fresh_stays (enrols d ∷ new) es f e k h =
       | inr other ↦ cond-false (eqb d.facility f) (Some d) (enrolment_of (new ++ es) f) other ∙ was
     ]
 fresh_stays (acts a ∷ new) es f e k h = fresh_stays new es f e k h
-fresh_stays (takesBack ∷ new) es f e k h = fresh_stays new es f e k h
+fresh_stays (takes_back ∷ new) es f e k h = fresh_stays new es f e k h
 fresh_stays (closes ∷ new) es f e k h = fresh_stays new es f e k h
 
 pub enrolment_stays : (cs : List CallFields) (new es₀ : List Event) (f : ℕ) (e : EnrolmentFields) → accepted cs ≡ new ++ es₀ → enrolment_of es₀ f ≡ Some e → enrolment_of (accepted cs) f ≡ Some e

@@ -21,13 +21,13 @@ added_none None es = refl
 added_none (Some w) es = refl
 
 module _ {M : Type 0} (μ : M → Meaning) (m : M) (r : Register M) (c : CallFields) (cs : List CallFields) where
-  pub refused-lives : (w : Refusal) → refusal_of c (accepted cs) ≡ Some w → Lived μ m r cs → Lived μ m r (c ∷ cs)
-  refused-lives w h L = subst (Holds μ m r) (sym (ap (λ (o : Option Refusal). added o (event_of c) (accepted cs)) h)) L
+  pub refused_lives : (w : Refusal) → refusal_of c (accepted cs) ≡ Some w → Lived μ m r cs → Lived μ m r (c ∷ cs)
+  refused_lives w h L = subst (Holds μ m r) (sym (ap (λ (o : Option Refusal). added o (event_of c) (accepted cs)) h)) L
 
-  pub looked-lives : event_of c ≡ None → Lived μ m r cs → Lived μ m r (c ∷ cs)
-  looked-lives h L =
+  pub looked_lives : event_of c ≡ None → Lived μ m r cs → Lived μ m r (c ∷ cs)
+  looked_lives h L =
       subst (Holds μ m r) (sym (ap (λ (o : Option Event). added (refusal_of c (accepted cs)) o (accepted cs)) h ∙ added_none (refusal_of c (accepted cs)) (accepted cs))) L
 
-  pub accepted-lives : (ev : Event) → refusal_of c (accepted cs) ≡ None → event_of c ≡ Some ev → Holds μ m r (ev ∷ accepted cs) → Lived μ m r (c ∷ cs)
-  accepted-lives ev h does H =
+  pub accepted_lives : (ev : Event) → refusal_of c (accepted cs) ≡ None → event_of c ≡ Some ev → Holds μ m r (ev ∷ accepted cs) → Lived μ m r (c ∷ cs)
+  accepted_lives ev h does H =
       subst (Holds μ m r) (sym (ap (λ (o : Option Refusal). added o (event_of c) (accepted cs)) h ∙ ap (λ (o : Option Event). added None o (accepted cs)) does)) H

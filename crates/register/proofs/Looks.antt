@@ -9,7 +9,7 @@ use Rattle.enrolment.specs.declared.enrolment.Enrolment.{Enrolment}
 use Rattle.limit.specs.Laws.{Meaning}
 use Rattle.register.specs.Acceptance.{unknown, vacant, first_of, accepted}
 use Rattle.register.specs.Answers.{AssessmentFields, refused, found, answer_by, answer_to, assessment_at}
-use Rattle.register.specs.Calls.{CallFields, lookUp, Event}
+use Rattle.register.specs.Calls.{CallFields, look_up, Event}
 use Rattle.register.specs.History.{standing_at, enrolment_of}
 use Rattle.register.specs.Lived.{Holds, Lived}
 use Rattle.register.specs.Refusals.{refusal_told}
@@ -20,7 +20,7 @@ use Rattle.register.specs.declared.table.Plant.{Plant}
 use Rattle.register.specs.declared.table.Register.{Register}
 use Rattle.register.proofs.Keeping.{check_holds, check_passes}
 use Rattle.register.proofs.Options.{none_of}
-use Rattle.register.proofs.Shown.{shown-is, vacant-none}
+use Rattle.register.proofs.Shown.{shown_is, vacant_none}
 
 pub outside : (least most n : ℕ) → (n < least) ⊎ ((least ≤ n) × (most < n)) → between least most n ≡ false
 outside least most n h =
@@ -38,22 +38,22 @@ shown_blank None a h = refl
 shown_blank (Some e) a h = absurd (true≢false h)
 
 module _ {M : Type 0} (r : Register M) (f y : ℕ) where
-  pub shown-outside : between 1 4 f ≡ false → shown_at r f y ≡ None
+  pub shown_outside : between 1 4 f ≡ false → shown_at r f y ≡ None
   unfolding shown_at
-  shown-outside out = cond-false (between 1 4 f) (shown_in (get_or r.plants (f - 1) blank_plant) y) None out
+  shown_outside out = cond-false (between 1 4 f) (shown_in (get_or r.plants (f - 1) blank_plant) y) None out
 
   module _ (low : 1 ≤ f) (high : f ≤ 4) (four : length r.plants ≡ 4) (p : Plant) where
-    shown-inside : shown_at r f y ≡ shown_in (get_or r.plants (f - 1) p) y
+    shown_inside : shown_at r f y ≡ shown_in (get_or r.plants (f - 1) p) y
     unfolding shown_at
-    shown-inside =
+    shown_inside =
         cond-true (between 1 4 f) (shown_in (get_or r.plants (f - 1) blank_plant) y) None (and_from (leb 1 f) (leb f 4) (le-leb 1 f low) (le-leb f 4 high))
         ∙ ap (λ (d : Plant). shown_in d y) (get_or_default r.plants (f - 1) blank_plant p (omega arith))
 
-    pub shown-enrolled : is_some (get_or r.plants (f - 1) p).enrolment ≡ true → shown_at r f y ≡ option_map assessment_fields (assessed_at (get_or r.plants (f - 1) p).assessed y)
-    shown-enrolled there = shown-inside ∙ shown_some (get_or r.plants (f - 1) p).enrolment (assessed_at (get_or r.plants (f - 1) p).assessed y) there
+    pub shown_enrolled : is_some (get_or r.plants (f - 1) p).enrolment ≡ true → shown_at r f y ≡ option_map assessment_fields (assessed_at (get_or r.plants (f - 1) p).assessed y)
+    shown_enrolled there = shown_inside ∙ shown_some (get_or r.plants (f - 1) p).enrolment (assessed_at (get_or r.plants (f - 1) p).assessed y) there
 
-    pub shown-absent : is_some (get_or r.plants (f - 1) p).enrolment ≡ false → shown_at r f y ≡ None
-    shown-absent gone = shown-inside ∙ shown_blank (get_or r.plants (f - 1) p).enrolment (assessed_at (get_or r.plants (f - 1) p).assessed y) gone
+    pub shown_absent : is_some (get_or r.plants (f - 1) p).enrolment ≡ false → shown_at r f y ≡ None
+    shown_absent gone = shown_inside ∙ shown_blank (get_or r.plants (f - 1) p).enrolment (assessed_at (get_or r.plants (f - 1) p).assessed y) gone
 
 mapped_some : {X Y : Type 0} (view : X → Y) (o : Option X) → is_some (option_map view o) ≡ is_some o
 mapped_some view None = refl
@@ -63,25 +63,25 @@ mapped_some view (Some x) = refl
 pub enrolled_as_read : {M : Type 0} (μ : M → Meaning) (m : M) (r : Register M) (es : List Event) → Holds μ m r es → (f : ℕ) → 1 ≤ f → f ≤ 4 → (p : Plant) (b : Bool) → is_some (get_or r.plants (f - 1) p).enrolment ≡ b → is_some (enrolment_of es f) ≡ b
 enrolled_as_read μ m r es H f low high p b is =
     let read : get_or r.plants (f - 1) p ≡ get_or r.plants (f - 1) (get_or r.plants (f - 1) p) = get_or_default r.plants (f - 1) p (get_or r.plants (f - 1) p) (omega (arith, H.four)) in
-    sym (ap is_some (H.plants-are f low high (get_or r.plants (f - 1) p) read).enrolment-is) ∙ mapped_some enrolled (get_or r.plants (f - 1) p).enrolment ∙ is
+    sym (ap is_some (H.plants-are f low high (get_or r.plants (f - 1) p) read).enrolment_is) ∙ mapped_some enrolled (get_or r.plants (f - 1) p).enrolment ∙ is
 
 module _ {M : Type 0} (μ : M → Meaning) (m : M) (r : Register M) (cs : List CallFields) (L : Lived μ m r cs) (f y : ℕ) where
-  pub look-unknown : is_some (enrolment_of (accepted cs) f) ≡ false → refused (refusal_told Unknown) ≡ answer_to (μ m) (lookUp f y) cs
-  look-unknown gone =
+  pub look_unknown : is_some (enrolment_of (accepted cs) f) ≡ false → refused (refusal_told Unknown) ≡ answer_to (μ m) (look_up f y) cs
+  look_unknown gone =
       sym
       (ap (λ o. answer_by o (found (assessment_at (μ m) (accepted cs) f y)))
       (check_holds (unknown (accepted cs) f) (vacant (accepted cs) f y ∷ []) (ap not gone)))
 
   -- an enrolled facility: the answer is what is shown
-  pub look-enrolled : is_some (enrolment_of (accepted cs) f) ≡ true → (o : Option AssessmentFields) → shown_at r f y ≡ o → found o ≡ answer_to (μ m) (lookUp f y) cs
-  look-enrolled known o is =
+  pub look_enrolled : is_some (enrolment_of (accepted cs) f) ≡ true → (o : Option AssessmentFields) → shown_at r f y ≡ o → found o ≡ answer_to (μ m) (look_up f y) cs
+  look_enrolled known o is =
       let passed : first_of (unknown (accepted cs) f ∷ vacant (accepted cs) f y ∷ []) ≡ first_of (vacant (accepted cs) f y ∷ []) = check_passes (unknown (accepted cs) f) (vacant (accepted cs) f y ∷ []) (ap not known) in
-      let shows : found o ≡ found (assessment_at (μ m) (accepted cs) f y) = ap found (sym is ∙ shown-is μ m r (accepted cs) L f y) in
+      let shows : found o ≡ found (assessment_at (μ m) (accepted cs) f y) = ap found (sym is ∙ shown_is μ m r (accepted cs) L f y) in
       ⊎_elim
       (λ (there : is_some (standing_at (accepted cs) f y) ≡ true).
       shows ∙ sym (ap (λ o. answer_by o (found (assessment_at (μ m) (accepted cs) f y))) (passed ∙ check_passes (vacant (accepted cs) f y) [] (ap not there))))
       (λ (gone : is_some (standing_at (accepted cs) f y) ≡ false).
       shows
-      ∙ ap found (vacant-none (μ m) (accepted cs) f y (none_of (standing_at (accepted cs) f y) gone))
+      ∙ ap found (vacant_none (μ m) (accepted cs) f y (none_of (standing_at (accepted cs) f y) gone))
       ∙ sym (ap (λ o. answer_by o (found (assessment_at (μ m) (accepted cs) f y))) (passed ∙ check_holds (vacant (accepted cs) f y) [] (ap not gone))))
       (cases_Bool (is_some (standing_at (accepted cs) f y)))

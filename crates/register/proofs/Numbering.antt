@@ -4,7 +4,7 @@ use Rattle.std.specs.List.{AllByRecursion as All}
 use Rattle.std.proofs.ByRecursion.{All-append, All-weaker}
 use Rattle.std.proofs.lemmas.Bool.{cases_Bool, cond-true, cond-false, or_parts, false≢true, and_cases, and_left, and_right, leb-false, ne_eqb}
 use Rattle.filing.specs.Filing.{FilingFields}
-use Rattle.register.specs.Calls.{Act, Event, enrols, acts, takesBack, closes}
+use Rattle.register.specs.Calls.{Act, Event, enrols, acts, takes_back, closes}
 use Rattle.register.specs.History.{standing_at, numbers, if_touched, number_of}
 use Rattle.register.specs.Laws.{on_place, touches, Latest}
 use Rattle.register.specs.Striking.{struck_or, open_acts, undo_log, closed_acts, unstruck}
@@ -25,7 +25,7 @@ number_more : (e : Event) (es : List Event) (f y : ℕ) → number_of (e ∷ es)
 unfolding number_of
 number_more (enrols e) es f y = refl
 number_more (acts a) es f y = refl
-number_more takesBack es f y = if_touched_is (undo_log es) f y (numbers es + 1) (number_of es f y)
+number_more takes_back es f y = if_touched_is (undo_log es) f y (numbers es + 1) (number_of es f y)
 number_more closes es f y = refl
 
 -- the latest
@@ -90,14 +90,14 @@ open_away n (enrols e ∷ es) f y h = open_away n es f y h
 open_away n (acts a ∷ es) f y h =
     let p = or_parts (on_place (a ∷ []) f y) (touched es f y) h in
     struck_away f y n a (λ m. open_acts m es) p.0 (λ m. open_away m es f y p.1)
-open_away n (takesBack ∷ es) f y h = open_away (suc n) es f y (or_parts (on_place (undo_log es) f y) (touched es f y) h).1
+open_away n (takes_back ∷ es) f y h = open_away (suc n) es f y (or_parts (on_place (undo_log es) f y) (touched es f y) h).1
 open_away n (closes ∷ es) f y h = tt
 
 closed_away : (es : List Event) (f y : ℕ) → touched es f y ≡ false → All (Away f y) (closed_acts es)
 closed_away [] f y h = tt
 closed_away (enrols e ∷ es) f y h = closed_away es f y h
 closed_away (acts a ∷ es) f y h = closed_away es f y (or_parts (on_place (a ∷ []) f y) (touched es f y) h).1
-closed_away (takesBack ∷ es) f y h = closed_away es f y (or_parts (on_place (undo_log es) f y) (touched es f y) h).1
+closed_away (takes_back ∷ es) f y h = closed_away es f y (or_parts (on_place (undo_log es) f y) (touched es f y) h).1
 closed_away (closes ∷ es) f y h = All-append (Away f y) (undo_log es) (closed_acts es) (open_away 0 es f y h) (closed_away es f y h)
 
 -- where a filing stands, some event touches

@@ -2,7 +2,7 @@
 use Rattle.std.proofs.Common.{◌≡◌, ℕ, List, ◌∷◌, IfErr, Ok, Err, Result, sym, refl, ap, ◌∙◌, subst}
 use Rattle.limit.specs.Laws.{Meaning}
 use Rattle.register.specs.Answers.{Answered, answer_to, number_answer, enrol_answer}
-use Rattle.register.specs.Calls.{CallFields, lookUp}
+use Rattle.register.specs.Calls.{CallFields, look_up}
 use Rattle.register.specs.Lived.{Lived, Lives}
 use Rattle.register.specs.Performing.{answered, answer_or, Performs, KeptIf}
 use Rattle.register.specs.Views.{look_answer}
@@ -11,7 +11,7 @@ use Rattle.register.specs.declared.answers.Answer.TheVariants as answer
 use Rattle.register.specs.declared.refusals.Refusal.{Refusal}
 use Rattle.register.specs.declared.table.Assessment.{Assessment}
 use Rattle.register.specs.declared.table.Register.{Register}
-use Rattle.register.proofs.Keeping.{looked-lives}
+use Rattle.register.proofs.Keeping.{looked_lives}
 use Rattle.register.proofs.Wholes.{laws_of}
 
 module _ {M : Type 0} (μ : M → Meaning) (r s : Register M) (c d : CallFields) (d-is : d ≡ c) (a : Answer) where
@@ -49,5 +49,5 @@ look_kept μ r s (Ok a) h = h
 look_kept μ r s (Err w) h = h
 
 -- a look-up is one call more of every history
-pub look_lives : {M : Type 0} (μ : M → Meaning) (r : Register M) (f y : ℕ) (b : Answered) → ((m : M) (cs : List CallFields) → Lived μ m r cs → b ≡ answer_to (μ m) (lookUp f y) cs) → Lives μ r r (lookUp f y) (λ m cs. b ≡ answer_to (μ m) (lookUp f y) cs)
-look_lives μ r f y b h m cs L = (looked-lives μ m r (lookUp f y) cs refl L, h m cs L)
+pub look_lives : {M : Type 0} (μ : M → Meaning) (r : Register M) (f y : ℕ) (b : Answered) → ((m : M) (cs : List CallFields) → Lived μ m r cs → b ≡ answer_to (μ m) (look_up f y) cs) → Lives μ r r (look_up f y) (λ m cs. b ≡ answer_to (μ m) (look_up f y) cs)
+look_lives μ r f y b h m cs L = (looked_lives μ m r (look_up f y) cs refl L, h m cs L)

@@ -24,46 +24,46 @@ use Rattle.register.proofs.Rows.{places_long, place_of}
 pub known_on : (es ds : List Event) → ((f : ℕ) → is_some (enrolment_of es f) ≡ true → is_some (enrolment_of ds f) ≡ true) → (l : List Act) → All (Known es) l → All (Known ds) l
 known_on es ds h [] k = tt
 known_on es ds h (a ∷ l) k =
-    (record { is-enrolled = h a.facility k.0.is-enrolled; from = k.0.from; to = k.0.to }, known_on es ds h l k.1)
+    (record { is_enrolled = h a.facility k.0.is_enrolled; from = k.0.from; to = k.0.to }, known_on es ds h l k.1)
 
 module _ {M : Type 0} (μ : M → Meaning) (m : M) (r : Register M) (es : List Event) (H : Holds μ m r es) where
   -- a year without a place
-  pub no-year : (f y : ℕ) → between 2017 2036 y ≡ false → standing_at es f y ≡ None
-  no-year f y out = outside_none es f y H.known out
+  pub no_year : (f y : ℕ) → between 2017 2036 y ≡ false → standing_at es f y ≡ None
+  no_year f y out = outside_none es f y H.known out
 
   -- the checks on the undo log and the numbers
   pub not_full : vec_len r.log.entries < 32 → (book_full es).0 ≡ false
   not_full h = lt-leb most_acts (length (undo_log es)) (omega (arith, H.log-len))
 
-  pub is-full : 32 ≤ vec_len r.log.entries → (book_full es).0 ≡ true
-  is-full h = le-leb most_acts (length (undo_log es)) (omega (arith, H.log-len))
+  pub is_full : 32 ≤ vec_len r.log.entries → (book_full es).0 ≡ true
+  is_full h = le-leb most_acts (length (undo_log es)) (omega (arith, H.log-len))
 
-  pub not-bare : (vec_len r.log.entries ≡ 0 → ⊥) → (bare es).0 ≡ false
-  not-bare h = lt-leb (length (undo_log es)) 0 (omega (arith, H.log-len))
+  pub not_bare : (vec_len r.log.entries ≡ 0 → ⊥) → (bare es).0 ≡ false
+  not_bare h = lt-leb (length (undo_log es)) 0 (omega (arith, H.log-len))
 
-  pub is-bare : vec_len r.log.entries ≡ 0 → (bare es).0 ≡ true
-  is-bare h = le-leb (length (undo_log es)) 0 (omega (arith, H.log-len))
+  pub is_bare : vec_len r.log.entries ≡ 0 → (bare es).0 ≡ true
+  is_bare h = le-leb (length (undo_log es)) 0 (omega (arith, H.log-len))
 
-  pub not-spent : r.used < 1000000 → (spent es).0 ≡ false
-  not-spent h = lt-leb last_number (numbers es) (omega (arith, H.used-is))
+  pub not_spent : r.used < 1000000 → (spent es).0 ≡ false
+  not_spent h = lt-leb last_number (numbers es) (omega (arith, H.used-is))
 
-  pub is-spent : 1000000 ≤ r.used → (spent es).0 ≡ true
-  is-spent h = le-leb last_number (numbers es) (omega (arith, H.used-is))
+  pub is_spent : 1000000 ≤ r.used → (spent es).0 ≡ true
+  is_spent h = le-leb last_number (numbers es) (omega (arith, H.used-is))
 
   module _ (f : ℕ) (lo : 1 ≤ f) (hi : f ≤ 4) (d : Plant) (d-is : d ≡ get_or r.plants (f - 1) d) where
     -- the enrolment
-    pub enrolled-is : (e : Enrolment) → d.enrolment ≡ Some e → enrolment_of es f ≡ Some (enrolled e)
-    enrolled-is e h = sym (H.plants-are f lo hi d d-is).enrolment-is ∙ ap (option_map enrolled) h
+    pub enrolled_is : (e : Enrolment) → d.enrolment ≡ Some e → enrolment_of es f ≡ Some (enrolled e)
+    enrolled_is e h = sym (H.plants-are f lo hi d d-is).enrolment_is ∙ ap (option_map enrolled) h
 
-    pub enrolled-yes : (e : Enrolment) → d.enrolment ≡ Some e → is_some (enrolment_of es f) ≡ true
-    enrolled-yes e h = ap is_some (enrolled-is e h)
+    pub enrolled_yes : (e : Enrolment) → d.enrolment ≡ Some e → is_some (enrolment_of es f) ≡ true
+    enrolled_yes e h = ap is_some (enrolled_is e h)
 
-    pub enrolled-no : d.enrolment ≡ None → enrolment_of es f ≡ None
-    enrolled-no h = sym (H.plants-are f lo hi d d-is).enrolment-is ∙ ap (option_map enrolled) h
+    pub enrolled_no : d.enrolment ≡ None → enrolment_of es f ≡ None
+    enrolled_no h = sym (H.plants-are f lo hi d d-is).enrolment_is ∙ ap (option_map enrolled) h
 
     -- the filing at a place
-    pub place-stands : (y : ℕ) → 2017 ≤ y → y ≤ 2036 → (p : Option Signed) → p ≡ get_or d.places (y - 2017) p → filing_at p ≡ standing_at es f y
-    place-stands y low high p p-is =
-        let are = (H.plants-are f lo hi d d-is).places-are in
+    pub place_stands : (y : ℕ) → 2017 ≤ y → y ≤ 2036 → (p : Option Signed) → p ≡ get_or d.places (y - 2017) p → filing_at p ≡ standing_at es f y
+    place_stands y low high p p-is =
+        let are = (H.plants-are f lo hi d d-is).places_are in
         let lt : y - 2017 < length d.places = omega (arith, length-map d.places filing_at, ap length are, places_long es f) in
         ap filing_at p-is ∙ sym (get_or-map filing_at d.places (y - 2017) p None lt) ∙ ap (λ (l : Places). get_or l (y - 2017) None) are ∙ place_of es f y None low high

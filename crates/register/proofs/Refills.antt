@@ -2,7 +2,7 @@
 use Rattle.std.proofs.Common.{◌≡◌, ℕ, zero, suc, ◌+◌, Bool, true, false, cond, ◌&&◌, eqb, leb, List, [], ◌∷◌, ◌++◌, Option, sym, refl, ap, ◌∙◌}
 use Rattle.std.proofs.lemmas.Bool.{and_parts, eqb-true}
 use Rattle.filing.specs.Filing.{FilingFields}
-use Rattle.register.specs.Calls.{Act, Event, enrols, acts, takesBack, closes}
+use Rattle.register.specs.Calls.{Act, Event, enrols, acts, takes_back, closes}
 use Rattle.register.specs.History.{left_by, standing_at, enrolment_of, numbers, if_touched, number_of}
 use Rattle.register.specs.Striking.{struck_or, open_acts, undo_log, closed_acts}
 
@@ -10,11 +10,11 @@ use Rattle.register.specs.Striking.{struck_or, open_acts, undo_log, closed_acts}
 pub record Refills (es ds : List Event) (f y : ℕ) (v : Option FilingFields) (n : ℕ) : Type 0 where
   pub leaves_at : (g z : ℕ) → standing_at ds g z ≡ cond (eqb f g && eqb y z) v (standing_at es g z)
   pub enrolls : (g : ℕ) → enrolment_of ds g ≡ enrolment_of es g
-  pub numbers-at : (g z : ℕ) → number_of ds g z ≡ cond (eqb f g && leb y z) n (number_of es g z)
+  pub numbers_at : (g z : ℕ) → number_of ds g z ≡ cond (eqb f g && leb y z) n (number_of es g z)
 
 pub act_refills : (es : List Event) (a : Act) → Refills es (acts a ∷ es) a.facility a.year a.leaves (numbers es + 1)
 unfolding standing_at number_of
-act_refills es a = record { leaves_at = λ g z. refl; enrolls = λ g. refl; numbers-at = λ g z. refl }
+act_refills es a = record { leaves_at = λ g z. refl; enrolls = λ g. refl; numbers_at = λ g z. refl }
 
 abbrev pub tail : List Act → List Act
 tail [] = []
@@ -29,7 +29,7 @@ pub open_tail : (n : ℕ) (es : List Event) → open_acts (suc n) es ≡ tail (o
 open_tail n [] = refl
 open_tail n (enrols e ∷ es) = open_tail n es
 open_tail n (acts a ∷ es) = struck_tail n a (λ m. open_acts m es) (λ m. open_tail m es)
-open_tail n (takesBack ∷ es) = open_tail (suc n) es
+open_tail n (takes_back ∷ es) = open_tail (suc n) es
 open_tail n (closes ∷ es) = refl
 
 struck_leaves : (b : Bool) (o w v : Option FilingFields) → (b ≡ true → w ≡ v) → w ≡ cond b v (cond b o w)
@@ -37,7 +37,7 @@ struck_leaves true o w v h = h refl
 struck_leaves false o w v h = refl
 
 -- a take-back leaves what stood before the act that it strikes
-pub take_back_refills : (es : List Event) (a : Act) (more : List Act) → undo_log es ≡ a ∷ more → Refills es (takesBack ∷ es) a.facility a.year (left_by (more ++ closed_acts es) a.facility a.year) (numbers es + 1)
+pub take_back_refills : (es : List Event) (a : Act) (more : List Act) → undo_log es ≡ a ∷ more → Refills es (takes_back ∷ es) a.facility a.year (left_by (more ++ closed_acts es) a.facility a.year) (numbers es + 1)
 unfolding standing_at number_of
 take_back_refills es a more h =
     let after : open_acts 1 es ≡ more = open_tail 0 es ∙ ap tail h in
@@ -54,5 +54,5 @@ take_back_refills es a more h =
           sym (ap (λ (i : ℕ). left_by L i a.year) f≡ ∙ ap (left_by L g) y≡))
           ∙ ap (λ (l : List Act). cond b (left_by L a.facility a.year) (left_by (l ++ closed_acts es) g z)) (sym h);
       enrolls = λ g. refl;
-      numbers-at = λ g z. ap (λ (l : List Act). if_touched l g z (numbers es + 1) (number_of es g z)) h;
+      numbers_at = λ g z. ap (λ (l : List Act). if_touched l g z (numbers es + 1) (number_of es g z)) h;
     }

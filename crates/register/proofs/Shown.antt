@@ -29,37 +29,37 @@ use Rattle.register.proofs.Vacancies.{outside_none, standing_enrolled}
 
 module _ (meaning : Meaning) (es : List Event) (f y : ℕ) where
   -- no assessment without an enrolment, and none without a filing that stands
-  unenrolled-none : enrolment_of es f ≡ None → assessment_at meaning es f y ≡ None
+  unenrolled_none : enrolment_of es f ≡ None → assessment_at meaning es f y ≡ None
   unfolding assessment_at
-  unenrolled-none h = ap (λ (o : Option EnrolmentFields). assessment_of meaning es f y o (standing_at es f y)) h
+  unenrolled_none h = ap (λ (o : Option EnrolmentFields). assessment_of meaning es f y o (standing_at es f y)) h
 
   of_none : (o : Option EnrolmentFields) → assessment_of meaning es f y o None ≡ None
   of_none None = refl
   of_none (Some e) = refl
 
-  pub vacant-none : standing_at es f y ≡ None → assessment_at meaning es f y ≡ None
+  pub vacant_none : standing_at es f y ≡ None → assessment_at meaning es f y ≡ None
   unfolding assessment_at
-  vacant-none h = ap (assessment_of meaning es f y (enrolment_of es f)) h ∙ of_none (enrolment_of es f)
+  vacant_none h = ap (assessment_of meaning es f y (enrolment_of es f)) h ∙ of_none (enrolment_of es f)
 
   -- where both are, the assessment
-  pub assessed-some : (e : EnrolmentFields) (x : FilingFields) → enrolment_of es f ≡ Some e → standing_at es f y ≡ Some x → assessment_at meaning es f y ≡ Some (assessment (emissions x.head) (meaning e (places_of es f) y) (number_of es f y))
+  pub assessed_some : (e : EnrolmentFields) (x : FilingFields) → enrolment_of es f ≡ Some e → standing_at es f y ≡ Some x → assessment_at meaning es f y ≡ Some (assessment (emissions x.head) (meaning e (places_of es f) y) (number_of es f y))
   unfolding assessment_at
-  assessed-some e x is-enrolled stands = ap (λ (o : Option EnrolmentFields). assessment_of meaning es f y o (standing_at es f y)) is-enrolled ∙ ap (assessment_of meaning es f y (Some e)) stands
+  assessed_some e x is_enrolled stands = ap (λ (o : Option EnrolmentFields). assessment_of meaning es f y o (standing_at es f y)) is_enrolled ∙ ap (assessment_of meaning es f y (Some e)) stands
 
-  pub assessed-found : All (Known es) (unstruck es) → is_some (assessment_at meaning es f y) ≡ is_some (standing_at es f y)
-  assessed-found known =
+  pub assessed_found : All (Known es) (unstruck es) → is_some (assessment_at meaning es f y) ≡ is_some (standing_at es f y)
+  assessed_found known =
       elim (none_or_some (standing_at es f y)) [
-        | inl vacant ↦ ap is_some (vacant-none vacant) ∙ sym (ap is_some vacant)
+        | inl vacant ↦ ap is_some (vacant_none vacant) ∙ sym (ap is_some vacant)
         | inr stands ↦
             let e = some_of (enrolment_of es f) (standing_enrolled es f y stands.0 known stands.1) in
-            ap is_some (assessed-some e.0 stands.0 e.1 stands.1) ∙ sym (ap is_some stands.1)
+            ap is_some (assessed_some e.0 stands.0 e.1 stands.1) ∙ sym (ap is_some stands.1)
       ]
 
   -- its figures and its number
-  figures-of : (o : Option EnrolmentFields) (p : Option FilingFields) (a : AssessmentFields) → enrolment_of es f ≡ o → standing_at es f y ≡ p → assessment_of meaning es f y o p ≡ Some a → Figures meaning es f y a × (a.number ≡ number_of es f y)
-  figures-of None p a eo ep h = absurd (none_some h)
-  figures-of (Some e) None a eo ep h = absurd (none_some h)
-  figures-of (Some e) (Some x) a eo ep h =
+  figures_of_place : (o : Option EnrolmentFields) (p : Option FilingFields) (a : AssessmentFields) → enrolment_of es f ≡ o → standing_at es f y ≡ p → assessment_of meaning es f y o p ≡ Some a → Figures meaning es f y a × (a.number ≡ number_of es f y)
+  figures_of_place None p a eo ep h = absurd (none_some h)
+  figures_of_place (Some e) None a eo ep h = absurd (none_some h)
+  figures_of_place (Some e) (Some x) a eo ep h =
       let made : AssessmentFields = assessment (emissions x.head) (meaning e (places_of es f) y) (number_of es f y) in
       let is : made ≡ a = some_inj h in (
         record {
@@ -74,21 +74,21 @@ module _ (meaning : Meaning) (es : List Event) (f y : ℕ) where
         sym (ap (λ (b : AssessmentFields). b.number) is),
       )
 
-  pub assessed-figures : (a : AssessmentFields) → assessment_at meaning es f y ≡ Some a → Figures meaning es f y a × (a.number ≡ number_of es f y)
+  pub assessed_figures : (a : AssessmentFields) → assessment_at meaning es f y ≡ Some a → Figures meaning es f y a × (a.number ≡ number_of es f y)
   unfolding assessment_at
-  assessed-figures a h = figures-of (enrolment_of es f) (standing_at es f y) a refl refl h
+  assessed_figures a h = figures_of_place (enrolment_of es f) (standing_at es f y) a refl refl h
 
 -- where the same stands and the enrolment is the same, the assessment is, numbers apart
 pub assessed_same : (meaning : Meaning) (es es₀ : List Event) (f y : ℕ) → All (Known es₀) (unstruck es₀) → ((e : EnrolmentFields) → enrolment_of es₀ f ≡ Some e → enrolment_of es f ≡ Some e) → ((z : ℕ) → standing_at es f z ≡ standing_at es₀ f z) → option_map unnumbered (assessment_at meaning es f y) ≡ option_map unnumbered (assessment_at meaning es₀ f y)
 assessed_same meaning es es₀ f y known stays same =
     elim (none_or_some (standing_at es₀ f y)) [
-      | inl vacant ↦ ap (option_map unnumbered) (vacant-none meaning es f y (same y ∙ vacant) ∙ sym (vacant-none meaning es₀ f y vacant))
+      | inl vacant ↦ ap (option_map unnumbered) (vacant_none meaning es f y (same y ∙ vacant) ∙ sym (vacant_none meaning es₀ f y vacant))
       | inr stands ↦
           let x = stands.0 in
           let e = some_of (enrolment_of es₀ f) (standing_enrolled es₀ f y x known stands.1) in
-          ap (option_map unnumbered) (assessed-some meaning es f y e.0 x (stays e.0 e.1) (same y ∙ stands.1))
+          ap (option_map unnumbered) (assessed_some meaning es f y e.0 x (stays e.0 e.1) (same y ∙ stands.1))
           ∙ ap (λ (ps : Places). Some (unnumbered (assessment (emissions x.head) (meaning e.0 ps y) 0))) (places_same es es₀ f f same)
-          ∙ sym (ap (option_map unnumbered) (assessed-some meaning es₀ f y e.0 x e.1 stands.1))
+          ∙ sym (ap (option_map unnumbered) (assessed_some meaning es₀ f y e.0 x e.1 stands.1))
     ]
 
 shown_of : (o : Option Enrolment) (a : Option Assessment) (t : Option AssessmentFields) → (o ≡ None → t ≡ None) → option_map assessment_fields a ≡ t → shown_of o a ≡ t
@@ -100,8 +100,8 @@ module _ {M : Type 0} (μ : M → Meaning) (m : M) (r : Register M) (es : List E
   abbrev plant : Plant
   plant = get_or r.plants (f - 1) blank_plant
 
-  in-year : (low : 1 ≤ f) (high : f ≤ 4) → plant ≡ get_or r.plants (f - 1) plant → option_map assessment_fields (assessed_at plant.assessed y) ≡ assessment_at (μ m) es f y
-  in-year low high here =
+  in_year : (low : 1 ≤ f) (high : f ≤ 4) → plant ≡ get_or r.plants (f - 1) plant → option_map assessment_fields (assessed_at plant.assessed y) ≡ assessment_at (μ m) es f y
+  in_year low high here =
       elim (cases_Bool (between 2017 2036 y)) [
         | inl inside ↦
             let z = and_parts (leb 2017 y) (leb y 2036) inside in
@@ -109,11 +109,11 @@ module _ {M : Type 0} (μ : M → Meaning) (m : M) (r : Register M) (es : List E
             let to : y ≤ 2036 = leb-true y 2036 z.1 in
             let year : 2017 + (y - 2017) ≡ y = omega arith in
             ap (option_map assessment_fields) (cond-true (between 2017 2036 y) (get_or plant.assessed (y - 2017) None) None inside)
-            ∙ (holds.plants-are f low high plant here).assessed-are (y - 2017) (omega arith)
+            ∙ (holds.plants-are f low high plant here).assessed_are (y - 2017) (omega arith)
             ∙ ap (assessment_at (μ m) es f) year
         | inr beyond ↦
             ap (option_map assessment_fields) (cond-false (between 2017 2036 y) (get_or plant.assessed (y - 2017) None) None beyond)
-            ∙ sym (vacant-none (μ m) es f y (outside_none es f y holds.known beyond))
+            ∙ sym (vacant_none (μ m) es f y (outside_none es f y holds.known beyond))
       ]
 
   inside_is : between 1 4 f ≡ true → shown_in plant y ≡ assessment_at (μ m) es f y
@@ -123,13 +123,13 @@ module _ {M : Type 0} (μ : M → Meaning) (m : M) (r : Register M) (es : List E
       let high : f ≤ 4 = leb-true f 4 g.1 in
       let here : plant ≡ get_or r.plants (f - 1) plant = get_or_default r.plants (f - 1) blank_plant plant (omega (arith, holds.four)) in
       shown_of plant.enrolment (assessed_at plant.assessed y) (assessment_at (μ m) es f y)
-      (λ none. unenrolled-none (μ m) es f y (sym (holds.plants-are f low high plant here).enrolment-is ∙ ap (option_map enrolled) none))
-      (in-year low high here)
+      (λ none. unenrolled_none (μ m) es f y (sym (holds.plants-are f low high plant here).enrolment_is ∙ ap (option_map enrolled) none))
+      (in_year low high here)
 
-  pub shown-is : shown_at r f y ≡ assessment_at (μ m) es f y
+  pub shown_is : shown_at r f y ≡ assessment_at (μ m) es f y
   unfolding shown_at
-  shown-is =
+  shown_is =
       elim (cases_Bool (between 1 4 f)) [
         | inl inside ↦ cond-true (between 1 4 f) (shown_in plant y) None inside ∙ inside_is inside
-        | inr other ↦ cond-false (between 1 4 f) (shown_in plant y) None other ∙ sym (unenrolled-none (μ m) es f y (holds.no-others f other))
+        | inr other ↦ cond-false (between 1 4 f) (shown_in plant y) None other ∙ sym (unenrolled_none (μ m) es f y (holds.no-others f other))
       ]

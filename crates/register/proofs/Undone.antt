@@ -1,6 +1,6 @@
 -- Acts and then as many take-backs leave all that stood before them.
 use Rattle.std.proofs.Common.{◌≡◌, ℕ, zero, suc, ◌+◌, List, [], ◌∷◌, ◌++◌, refl, ap, ◌∙◌, arith}
-use Rattle.register.specs.Calls.{Act, Event, enrols, acts, takesBack, closes}
+use Rattle.register.specs.Calls.{Act, Event, enrols, acts, takes_back, closes}
 use Rattle.register.specs.History.{left_by, standing_at}
 use Rattle.register.specs.Laws.{Acts, Backs}
 use Rattle.register.specs.Striking.{open_acts, closed_acts}
@@ -13,8 +13,8 @@ backs_open zero (enrols e ∷ bs) older n h = backs_open zero bs older n h
 backs_open (suc k) (enrols e ∷ bs) older n h = backs_open (suc k) bs older n h
 backs_open zero (acts a ∷ bs) older n h = absurd h
 backs_open (suc k) (acts a ∷ bs) older n h = absurd h
-backs_open zero (takesBack ∷ bs) older n h = absurd h
-backs_open (suc k) (takesBack ∷ bs) older n h = let e : suc n + k ≡ n + suc k = omega arith in backs_open k bs older (suc n) h ∙ ap (λ (i : ℕ). open_acts i older) e
+backs_open zero (takes_back ∷ bs) older n h = absurd h
+backs_open (suc k) (takes_back ∷ bs) older n h = let e : suc n + k ≡ n + suc k = omega arith in backs_open k bs older (suc n) h ∙ ap (λ (i : ℕ). open_acts i older) e
 backs_open zero (closes ∷ bs) older n h = absurd h
 backs_open (suc k) (closes ∷ bs) older n h = absurd h
 
@@ -26,8 +26,8 @@ acts_open zero (enrols e ∷ ds) older h = acts_open zero ds older h
 acts_open (suc k) (enrols e ∷ ds) older h = acts_open (suc k) ds older h
 acts_open zero (acts a ∷ ds) older h = absurd h
 acts_open (suc k) (acts a ∷ ds) older h = acts_open k ds older h
-acts_open zero (takesBack ∷ ds) older h = absurd h
-acts_open (suc k) (takesBack ∷ ds) older h = absurd h
+acts_open zero (takes_back ∷ ds) older h = absurd h
+acts_open (suc k) (takes_back ∷ ds) older h = absurd h
 acts_open zero (closes ∷ ds) older h = absurd h
 acts_open (suc k) (closes ∷ ds) older h = absurd h
 
@@ -39,8 +39,8 @@ backs_closed zero (enrols e ∷ bs) older h = backs_closed zero bs older h
 backs_closed (suc k) (enrols e ∷ bs) older h = backs_closed (suc k) bs older h
 backs_closed zero (acts a ∷ bs) older h = absurd h
 backs_closed (suc k) (acts a ∷ bs) older h = absurd h
-backs_closed zero (takesBack ∷ bs) older h = absurd h
-backs_closed (suc k) (takesBack ∷ bs) older h = backs_closed k bs older h
+backs_closed zero (takes_back ∷ bs) older h = absurd h
+backs_closed (suc k) (takes_back ∷ bs) older h = backs_closed k bs older h
 backs_closed zero (closes ∷ bs) older h = absurd h
 backs_closed (suc k) (closes ∷ bs) older h = absurd h
 
@@ -51,8 +51,8 @@ acts_closed zero (enrols e ∷ ds) older h = acts_closed zero ds older h
 acts_closed (suc k) (enrols e ∷ ds) older h = acts_closed (suc k) ds older h
 acts_closed zero (acts a ∷ ds) older h = absurd h
 acts_closed (suc k) (acts a ∷ ds) older h = acts_closed k ds older h
-acts_closed zero (takesBack ∷ ds) older h = absurd h
-acts_closed (suc k) (takesBack ∷ ds) older h = absurd h
+acts_closed zero (takes_back ∷ ds) older h = absurd h
+acts_closed (suc k) (takes_back ∷ ds) older h = absurd h
 acts_closed zero (closes ∷ ds) older h = absurd h
 acts_closed (suc k) (closes ∷ ds) older h = absurd h
 

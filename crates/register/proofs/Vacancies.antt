@@ -40,7 +40,7 @@ outside_none es f y known out = none_stands es f y (All-weaker (Known es) (λ a.
 facility_away : (es : List Event) (f y : ℕ) → is_some (enrolment_of es f) ≡ false → (a : Act) → Known es a → on_just f y a ≡ false
 facility_away es f y lacks a k =
     and_left (eqb a.facility f) (eqb a.year y)
-    (ne_eqb a.facility f (λ same. false≢true (sym lacks ∙ sym (ap (λ (g : ℕ). is_some (enrolment_of es g)) same) ∙ k.is-enrolled)))
+    (ne_eqb a.facility f (λ same. false≢true (sym lacks ∙ sym (ap (λ (g : ℕ). is_some (enrolment_of es g)) same) ∙ k.is_enrolled)))
 
 pub unenrolled_vacant : (es : List Event) (f y : ℕ) → All (Known es) (unstruck es) → is_some (enrolment_of es f) ≡ false → standing_at es f y ≡ None
 unenrolled_vacant es f y known lacks = none_stands es f y (All-weaker (Known es) (λ a. on_just f y a ≡ false) (facility_away es f y lacks) (unstruck es) known)

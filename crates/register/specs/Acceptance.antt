@@ -1,7 +1,7 @@
 -- Which calls of a history are accepted. A history is the list of calls made on a register, newest first.
 use Rattle.std.specs.Prelude.{ℕ, Bool, cond, not, List, [], ◌∷◌, length, is_some, Some, None, Option, nat_le}
 use Rattle.enrolment.specs.Ranges.{in_ranges}
-use Rattle.register.specs.Calls.{CallFields, enrol, file, amend, withdraw, takeBack, close, lookUp, Event, event_of}
+use Rattle.register.specs.Calls.{CallFields, enrol, file, amend, withdraw, take_back, close, look_up, Event, event_of}
 use Rattle.register.specs.History.{standing_at, enrolment_of, numbers}
 use Rattle.register.specs.Striking.{undo_log}
 use Rattle.register.specs.declared.refusals.Refusal.{Refusal}
@@ -47,9 +47,9 @@ checks (enrol e) es = (not (in_ranges e), Enrolment) ∷ (is_some (enrolment_of 
 checks (file f) es = unknown es f.head.facility ∷ stands es f.head.facility f.head.year ∷ book_full es ∷ spent es ∷ []
 checks (amend f) es = unknown es f.head.facility ∷ vacant es f.head.facility f.head.year ∷ book_full es ∷ spent es ∷ []
 checks (withdraw f y) es = unknown es f ∷ vacant es f y ∷ book_full es ∷ spent es ∷ []
-checks takeBack es = bare es ∷ spent es ∷ []
+checks take_back es = bare es ∷ spent es ∷ []
 checks close es = []
-checks (lookUp f y) es = unknown es f ∷ vacant es f y ∷ []
+checks (look_up f y) es = unknown es f ∷ vacant es f y ∷ []
 
 -- why a call is refused after the accepted events es; none: it is accepted
 abbrev pub refusal_of : CallFields → List Event → Option Refusal

@@ -8,7 +8,7 @@ use Rattle.limit.specs.Balance.{balance}
 use Rattle.limit.specs.Laws.{Meaning}
 use Rattle.limit.specs.Outcome as outcome
 use Rattle.register.specs.Acceptance.{accepted, refusal_of}
-use Rattle.register.specs.Calls.{CallFields, enrol, file, amend, withdraw, takeBack, close, lookUp, Event}
+use Rattle.register.specs.Calls.{CallFields, enrol, file, amend, withdraw, take_back, close, look_up, Event}
 use Rattle.register.specs.History.{standing_at, places_of, enrolment_of, numbers, number_of}
 use Rattle.register.specs.Refusals.{refusal_told}
 use Rattle.register.specs.declared.refusals.Refusal.{Refusal}
@@ -50,9 +50,9 @@ granted meaning (enrol e) es = enrolled
 granted meaning (file f) es = numbered (numbers es + 1)
 granted meaning (amend f) es = numbered (numbers es + 1)
 granted meaning (withdraw f y) es = numbered (numbers es + 1)
-granted meaning takeBack es = numbered (numbers es + 1)
+granted meaning take_back es = numbered (numbers es + 1)
 granted meaning close es = closed
-granted meaning (lookUp f y) es = found (assessment_at meaning es f y)
+granted meaning (look_up f y) es = found (assessment_at meaning es f y)
 
 abbrev pub answer_by : Option Refusal → Answered → Answered
 answer_by (Some w) a = refused (refusal_told w)

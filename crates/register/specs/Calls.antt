@@ -11,18 +11,18 @@ pub data CallFields : Type 0 where
   file : FilingFields → CallFields
   amend : FilingFields → CallFields
   withdraw : (facility year : ℕ) → CallFields
-  takeBack : CallFields
+  take_back : CallFields
   close : CallFields
-  lookUp : (facility year : ℕ) → CallFields
+  look_up : (facility year : ℕ) → CallFields
 
 abbrev pub call_fields : Call → CallFields
 call_fields (made.Enrol e) = enrol e
 call_fields (made.File s) = file (filed s)
 call_fields (made.Amend s) = amend (filed s)
 call_fields (made.Withdraw f y) = withdraw f y
-call_fields made.TakeBack = takeBack
+call_fields made.TakeBack = take_back
 call_fields made.Close = close
-call_fields (made.LookUp f y) = lookUp f y
+call_fields (made.LookUp f y) = look_up f y
 
 -- an act on a place, with what it leaves there
 pub record Act : Type 0 where
@@ -42,7 +42,7 @@ withdrawal f y = record { facility = f; year = y; leaves = None }
 pub data Event : Type 0 where
   enrols : EnrolmentFields → Event
   acts : Act → Event
-  takesBack : Event
+  takes_back : Event
   closes : Event
 
 -- a look-up does nothing
@@ -51,6 +51,6 @@ event_of (enrol e) = Some (enrols e)
 event_of (file f) = Some (acts (filing_act f))
 event_of (amend f) = Some (acts (filing_act f))
 event_of (withdraw f y) = Some (acts (withdrawal f y))
-event_of takeBack = Some takesBack
+event_of take_back = Some takes_back
 event_of close = Some closes
-event_of (lookUp f y) = None
+event_of (look_up f y) = None

@@ -4,7 +4,7 @@ use Rattle.std.specs.List.{range_with_len}
 use Rattle.filing.specs.Filing.{FilingFields}
 use Rattle.enrolment.specs.declared.fields.EnrolmentFields.{EnrolmentFields}
 use Rattle.standard.specs.Places.{Places}
-use Rattle.register.specs.Calls.{Act, Event, enrols, acts, takesBack, closes}
+use Rattle.register.specs.Calls.{Act, Event, enrols, acts, takes_back, closes}
 use Rattle.register.specs.Striking.{undo_log, unstruck}
 
 -- what the last of these acts on a facility and year leaves
@@ -25,7 +25,7 @@ abbrev pub enrolment_of : List Event → ℕ → Option EnrolmentFields
 enrolment_of [] f = None
 enrolment_of (enrols e ∷ es) f = cond (e.facility == f) (Some e) (enrolment_of es f)
 enrolment_of (acts a ∷ es) f = enrolment_of es f
-enrolment_of (takesBack ∷ es) f = enrolment_of es f
+enrolment_of (takes_back ∷ es) f = enrolment_of es f
 enrolment_of (closes ∷ es) f = enrolment_of es f
 
 -- how many numbers were given: to acts, struck or not, and to take-backs
@@ -33,7 +33,7 @@ abbrev pub numbers : List Event → ℕ
 numbers [] = 0
 numbers (enrols e ∷ es) = numbers es
 numbers (acts a ∷ es) = numbers es + 1
-numbers (takesBack ∷ es) = numbers es + 1
+numbers (takes_back ∷ es) = numbers es + 1
 numbers (closes ∷ es) = numbers es
 
 -- the newest of these acts is on the facility, in the year or an earlier one: the number n, else m
@@ -47,5 +47,5 @@ unfoldable pub number_of : List Event → ℕ → ℕ → ℕ
 number_of [] f y = 0
 number_of (enrols e ∷ es) f y = number_of es f y
 number_of (acts a ∷ es) f y = if_touched (a ∷ []) f y (numbers es + 1) (number_of es f y)
-number_of (takesBack ∷ es) f y = if_touched (undo_log es) f y (numbers es + 1) (number_of es f y)
+number_of (takes_back ∷ es) f y = if_touched (undo_log es) f y (numbers es + 1) (number_of es f y)
 number_of (closes ∷ es) f y = number_of es f y

@@ -9,7 +9,7 @@ use Rattle.limit.specs.Laws.{Meaning}
 use Rattle.limit.specs.Outcome as outcome
 use Rattle.register.specs.Acceptance.{accepted}
 use Rattle.register.specs.Answers.{AssessmentFields}
-use Rattle.register.specs.Calls.{CallFields, Act, Event, enrols, acts, takesBack, closes}
+use Rattle.register.specs.Calls.{CallFields, Act, Event, enrols, acts, takes_back, closes}
 use Rattle.register.specs.History.{standing_at, places_of, enrolment_of, numbers}
 use Rattle.register.specs.Lived.{Lived}
 use Rattle.register.specs.Striking.{undo_log}
@@ -37,7 +37,7 @@ Acts (suc n) [] = ⊥
 Acts n (enrols e ∷ es) = Acts n es
 Acts zero (acts a ∷ es) = ⊥
 Acts (suc n) (acts a ∷ es) = Acts n es
-Acts n (takesBack ∷ es) = ⊥
+Acts n (takes_back ∷ es) = ⊥
 Acts n (closes ∷ es) = ⊥
 
 -- n take-backs, and nothing among them but enrolments
@@ -46,8 +46,8 @@ Backs zero [] = Unit {0}
 Backs (suc n) [] = ⊥
 Backs n (enrols e ∷ es) = Backs n es
 Backs n (acts a ∷ es) = ⊥
-Backs zero (takesBack ∷ es) = ⊥
-Backs (suc n) (takesBack ∷ es) = Backs n es
+Backs zero (takes_back ∷ es) = ⊥
+Backs (suc n) (takes_back ∷ es) = Backs n es
 Backs n (closes ∷ es) = ⊥
 
 abbrev pub on_place : List Act → ℕ → ℕ → Bool
@@ -59,7 +59,7 @@ on_place (a ∷ more) f y = a.facility == f && nat_le a.year y
 abbrev pub touches : Event → List Event → ℕ → ℕ → Bool
 touches (enrols e) older f y = false
 touches (acts a) older f y = on_place (a ∷ []) f y
-touches takesBack older f y = on_place (undo_log older) f y
+touches takes_back older f y = on_place (undo_log older) f y
 touches closes older f y = false
 
 -- n is the number of the latest act or take-back on the facility in the year or an earlier one

@@ -23,30 +23,30 @@ logged_acts (a ∷ more) older =
     ++ (record { facility = a.facility; year = a.year; before = left_by (more ++ older) a.facility a.year } ∷ [])
 
 pub record PlantLived (meaning : Meaning) (es : List Event) (f : ℕ) (p : Plant) : Type 0 where
-  pub enrolment-is : option_map enrolled p.enrolment ≡ enrolment_of es f
-  pub places-are : filings p.places ≡ places_of es f
-  pub assessed-are : (k : ℕ) → k < 20 → option_map assessment_fields (slice_index_or p.assessed k None) ≡ assessment_at meaning es f (2017 + k)
+  pub enrolment_is : option_map enrolled p.enrolment ≡ enrolment_of es f
+  pub places_are : filings p.places ≡ places_of es f
+  pub assessed_are : (k : ℕ) → k < 20 → option_map assessment_fields (slice_index_or p.assessed k None) ≡ assessment_at meaning es f (2017 + k)
 
 abbrev pub PlantsLived : Meaning → List Event → List Plant → Type 0
 PlantsLived meaning es ps = (f : ℕ) → 1 ≤ f → f ≤ 4 → (p : Plant) → p ≡ slice_index_or ps (f - 1) p → PlantLived meaning es f p
 
 -- an act that stands is on an enrolled facility, in a year that has a place
 pub record Known (es : List Event) (a : Act) : Type 0 where
-  pub is-enrolled : is_some (enrolment_of es a.facility) ≡ true
+  pub is_enrolled : is_some (enrolment_of es a.facility) ≡ true
   pub from : 2017 ≤ a.year
   pub to : a.year ≤ 2036
 
 module _ {M : Type 0} (μ : M → Meaning) where
   -- the register holds what the accepted events say
   pub record Holds (m : M) (r : Register M) (es : List Event) : Type 0 where
-    pub method-is : r.method ≡ m
+    pub method_is : r.method ≡ m
     pub four : length r.plants ≡ 4
-    pub used-is : r.used ≡ numbers es
+    pub used_is : r.used ≡ numbers es
     pub log_is : map logged (vec_items r.log.entries) ≡ logged_acts (undo_log es) (closed_acts es)
-    pub log-len : vec_len r.log.entries ≡ length (undo_log es)
-    pub plants-are : PlantsLived (μ m) es r.plants
+    pub log_len : vec_len r.log.entries ≡ length (undo_log es)
+    pub plants_are : PlantsLived (μ m) es r.plants
     pub known : All (Known es) (unstruck es)
-    pub no-others : (f : ℕ) → between 1 4 f ≡ false → enrolment_of es f ≡ None
+    pub no_others : (f : ℕ) → between 1 4 f ≡ false → enrolment_of es f ≡ None
 
   abbrev pub Lived : M → Register M → List CallFields → Type 0
   Lived m r cs = Holds m r (accepted cs)

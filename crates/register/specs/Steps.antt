@@ -43,7 +43,7 @@ module _ {M : Type 0} (μ : M → Meaning) where
     pub used : s.used ≡ n
     pub method : s.method ≡ r.method
     pub log : map logged (vec_items s.log.entries) ≡ map logged (vec_items r.log.entries) ++ (record { facility = f; year = y; before = filing_at old } ∷ [])
-    pub log-len : vec_len s.log.entries ≡ vec_len r.log.entries + 1
+    pub log_len : vec_len s.log.entries ≡ vec_len r.log.entries + 1
     pub refit : Refit (μ r.method) r.plants s.plants f y e v n
 
   -- why an act is refused by the undo log and the numbers

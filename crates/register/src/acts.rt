@@ -2,7 +2,7 @@
 ghost use Rattle.std.specs.Prelude.{◌≡◌, ◌≤◌, [], is_some, IfOk, Some as some, OnErr};
 ghost use Rattle.filing.specs.Views.{filed};
 ghost use Rattle.register.specs.Answers.{answer_to, number_answer, enrol_answer};
-ghost use Rattle.register.specs.Calls.{enrol as enrolCall, file as fileCall, amend as amendCall, withdraw as withdrawCall, takeBack, close as closeCall};
+ghost use Rattle.register.specs.Calls.{enrol as enrolCall, file as fileCall, amend as amendCall, withdraw as withdrawCall, take_back, close as closeCall};
 ghost use Rattle.register.specs.Lived.{Lived, Lives};
 
 use crate::filling::LAST_NUMBER;
@@ -116,7 +116,7 @@ impl<M: LimitMethod> Register<M> {
 
     /// Undoes the latest act of the undo log.
     pub fn take_back(&mut self) -> Result<u64, Refusal>
-        ensures lives { Lives M.LimitMethod.meaning self.old self.new takeBack (λ m cs. number_answer result ≡ answer_to (M.LimitMethod.meaning m) takeBack cs) }
+        ensures lives { Lives M.LimitMethod.meaning self.old self.new take_back (λ m cs. number_answer result ≡ answer_to (M.LimitMethod.meaning m) take_back cs) }
         ensures refused { OnErr result (self.new ≡ self.old) }
     {
         if self.log.len() == BARE {

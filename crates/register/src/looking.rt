@@ -2,7 +2,7 @@
 ghost use Rattle.std.specs.Prelude.{◌≡◌, ◌-◌, ◌≤◌, true, List, is_some, slice_index_or};
 ghost use Rattle.standard.specs.Places.{filings, filing_at, standing};
 ghost use Rattle.register.specs.Answers.{answer_to};
-ghost use Rattle.register.specs.Calls.{CallFields, lookUp};
+ghost use Rattle.register.specs.Calls.{CallFields, look_up};
 ghost use Rattle.register.specs.Lived.{Lived};
 ghost use Rattle.register.specs.Steps.{Found};
 ghost use Rattle.register.specs.Views.{assessed_at, shown_at, Looked, look_answer};
@@ -74,7 +74,7 @@ impl<M: LimitMethod> Register<M> {
     /// The assessment of a facility and year.
     pub fn look_up(&self, facility: u64, year: u64) -> Result<Assessment, Refusal>
         ensures shows { Looked result (shown_at self.now facility year) }
-        ensures answers { (m : M) (cs : List CallFields) → Lived M.LimitMethod.meaning m self.now cs → look_answer result ≡ answer_to (M.LimitMethod.meaning m) (lookUp facility year) cs }
+        ensures answers { (m : M) (cs : List CallFields) → Lived M.LimitMethod.meaning m self.now cs → look_answer result ≡ answer_to (M.LimitMethod.meaning m) (look_up facility year) cs }
     {
         if facility < 1 || facility > FACILITIES {
             return Err(Refusal::Unknown);

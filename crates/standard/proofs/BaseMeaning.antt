@@ -18,16 +18,16 @@ module _ (e : EnrolmentFields) (ps : Places) (a : ℕ) where
       record { from = f.from; due = not-true _ p.0; filed = p.1; least = λ z from due filed. f.least z from (may z due filed) }
   meaning None f = λ z from due filed. f z from (omega (arith, qualifies_within ps a z filed)) (may z due filed)
 
-  pub base-means : BaseOf e ps a (base_year e ps a)
+  pub base_means : BaseOf e ps a (base_year e ps a)
   unfolding base_year
-  base-means = meaning _ (least_is (may_be_base e ps a) 2019 18)
+  base_means = meaning _ (least_is (may_be_base e ps a) 2019 18)
 
-  pub base-from : (y : ℕ) → base_year e ps a ≡ Some y → 2019 ≤ y
-  base-from y is = let P : Option ℕ → Type 0 = BaseOf e ps a in (subst P is base-means).from
+  pub base_from : (y : ℕ) → base_year e ps a ≡ Some y → 2019 ≤ y
+  base_from y is = let P : Option ℕ → Type 0 = BaseOf e ps a in (subst P is base_means).from
 
 -- the same places by another name
 pub base_found : (e : EnrolmentFields) (ps qs : Places) (a : ℕ) (o : Option ℕ) → ps ≡ qs → base_year e ps a ≡ o → (o ≡ base_year e qs a) × BaseOf e qs a o
 base_found e ps qs a o same is =
     let value : base_year e qs a ≡ o = ap (λ p. base_year e p a) (sym same) ∙ is in
     let P : Option ℕ → Type 0 = BaseOf e qs a in
-    (sym value, subst P value (base-means e qs a))
+    (sym value, subst P value (base_means e qs a))

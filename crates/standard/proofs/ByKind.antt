@@ -28,23 +28,23 @@ module _ (by : Calculation) (e : EnrolmentFields) (ps : Places) (y : ℕ) (l : L
 
   -- p is the line's production, rounded
   module _ (p : ℕ) (rounded : p ≡ three_figures l.production.thousandths 1) where
-    pub at-stated : (r : ℕ) → l.kind ≡ Numerical → r ≡ p * l.standard.ten_thousandths → Ok r ≡ contribution by e ps y (line_fields l)
-    at-stated r kind is = ap Ok (is ∙ ap (λ n. n * l.standard.ten_thousandths) rounded) ∙ by_kind Numerical kind
+    pub at_stated : (r : ℕ) → l.kind ≡ Numerical → r ≡ p * l.standard.ten_thousandths → Ok r ≡ contribution by e ps y (line_fields l)
+    at_stated r kind is = ap Ok (is ∙ ap (λ n. n * l.standard.ten_thousandths) rounded) ∙ by_kind Numerical kind
 
-    calculated-by : (s : Result ℕ Cause) → by ≡ FromYears → l.kind ≡ Calculated → s ≡ calculated e (up_to y ps) l.number → at_standard p s ≡ contribution by e ps y (line_fields l)
-    calculated-by s years kind is =
+    calculated_from_years : (s : Result ℕ Cause) → by ≡ FromYears → l.kind ≡ Calculated → s ≡ calculated e (up_to y ps) l.number → at_standard p s ≡ contribution by e ps y (line_fields l)
+    calculated_from_years s years kind is =
         ap (λ n. at_standard n s) rounded
         ∙ ap (at_standard (three_figures l.production.thousandths 1)) (is ∙ ap (λ b. calculated_by b e (up_to y ps) l.number) (sym years))
         ∙ by_kind Calculated kind
 
-    pub at-calculated : (s r : ℕ) → by ≡ FromYears → l.kind ≡ Calculated → Ok s ≡ calculated e (up_to y ps) l.number → r ≡ p * s → Ok r ≡ contribution by e ps y (line_fields l)
-    at-calculated s r years kind is product = ap Ok product ∙ calculated-by (Ok s) years kind is
+    pub at_calculated : (s r : ℕ) → by ≡ FromYears → l.kind ≡ Calculated → Ok s ≡ calculated e (up_to y ps) l.number → r ≡ p * s → Ok r ≡ contribution by e ps y (line_fields l)
+    at_calculated s r years kind is product = ap Ok product ∙ calculated_from_years (Ok s) years kind is
 
-    pub not-calculated : (x : Cause) → by ≡ FromYears → l.kind ≡ Calculated → Err x ≡ calculated e (up_to y ps) l.number → Err x ≡ contribution by e ps y (line_fields l)
-    not-calculated x years kind is = calculated-by (Err x) years kind is
+    pub not_calculated : (x : Cause) → by ≡ FromYears → l.kind ≡ Calculated → Err x ≡ calculated e (up_to y ps) l.number → Err x ≡ contribution by e ps y (line_fields l)
+    not_calculated x years kind is = calculated_from_years (Err x) years kind is
 
-    pub at-capacity : (t u : ℕ) (r : Result ℕ Cause) → l.kind ≡ Gaseous → t ≡ triggering_megawatts l.number (up_to y ps) → u ≡ other_megawatts l.number (up_to y ps) → r ≡ unit_yield p t u y → r ≡ contribution by e ps y (line_fields l)
-    at-capacity t u r kind triggering other is =
+    pub at_capacity : (t u : ℕ) (r : Result ℕ Cause) → l.kind ≡ Gaseous → t ≡ triggering_megawatts l.number (up_to y ps) → u ≡ other_megawatts l.number (up_to y ps) → r ≡ unit_yield p t u y → r ≡ contribution by e ps y (line_fields l)
+    at_capacity t u r kind triggering other is =
         is
         ∙ ap (λ n. unit_yield n t u y) rounded
         ∙ ap (λ n. unit_yield (three_figures l.production.thousandths 1) n u y) triggering

@@ -13,7 +13,7 @@ use Rattle.filing.specs.declared.kinds.LineKind.{LineKind}
 use Rattle.filing.specs.declared.kinds.LineKind.TheVariants.{Calculated}
 use Rattle.filing.specs.declared.parts.Line.{Line}
 use Rattle.standard.specs.Reference.{of_activity, has_activity, emitted_by, made_by, figures_of}
-use Rattle.standard.proofs.Lines.{passed, some-passed}
+use Rattle.standard.proofs.Lines.{passed, some_passed}
 
 pub few_lines_filed : (f : FilingFields) (ls : List Line) → Sound f → map line_fields ls ≡ f.lines → length ls ≤ 6
 few_lines_filed f ls s e = omega (arith, s.few, ap length e, length-map ls line_fields)
@@ -43,7 +43,7 @@ module _ (activity : ℕ) (f : FilingFields) (ls : List Line) (s : Sound f) (e :
       record {
         elsewhere = ap (λ n. total f.head - n) (o ∙ ap (λ ms. sum_by (λ l. l.attributed) (filter (λ l. not (of_activity activity l)) ms)) (all i past));
         here = here;
-        has = some-passed (of_activity activity) (λ l. l.production) f.lines (λ j d b h. produces activity _ (s.lines j d b) h) ∙ ap (ltb 0) (sym here);
+        has = some_passed (of_activity activity) (λ l. l.production) f.lines (λ j d b h. produces activity _ (s.lines j d b) h) ∙ ap (ltb 0) (sym here);
       }
 
 -- and what follows of the filing g, which is the same

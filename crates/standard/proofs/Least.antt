@@ -5,19 +5,19 @@ use Rattle.standard.specs.Reference.{least_from}
 
 -- what stands after the numbers below y have failed, where o is the answer from the start
 module _ (test : ℕ → Bool) (y end : ℕ) (o : Option ℕ) (so_far : least_from test y (end - y) ≡ o) where
-  pub least-none : end ≤ y → o ≡ None
-  least-none past = let none : end - y ≡ 0 = omega arith in sym so_far ∙ ap (least_from test y) none
+  pub least_none : end ≤ y → o ≡ None
+  least_none past = let none : end - y ≡ 0 = omega arith in sym so_far ∙ ap (least_from test y) none
 
   here : y < end → cond (test y) (Some y) (least_from test (y + 1) (end - (y + 1))) ≡ o
   here within =
       let one : end - y ≡ suc (end - (y + 1)) = omega arith in
       ap (λ z. cond (test y) (Some y) (least_from test z (end - (y + 1)))) (add-one y) ∙ sym (ap (least_from test y) one) ∙ so_far
 
-  pub least-hit : y < end → test y ≡ true → o ≡ Some y
-  least-hit within passes = sym (here within) ∙ cond-true (test y) _ _ passes
+  pub least_hit : y < end → test y ≡ true → o ≡ Some y
+  least_hit within passes = sym (here within) ∙ cond-true (test y) _ _ passes
 
-  pub least-miss : y < end → test y ≡ false → least_from test (y + 1) (end - (y + 1)) ≡ o
-  least-miss within fails = sym (cond-false (test y) _ _ fails) ∙ here within
+  pub least_miss : y < end → test y ≡ false → least_from test (y + 1) (end - (y + 1)) ≡ o
+  least_miss within fails = sym (cond-false (test y) _ _ fails) ∙ here within
 
 -- x is the least from y on that passes
 pub record Least (test : ℕ → Bool) (y x : ℕ) : Type 0 where

@@ -18,8 +18,8 @@ module _ (p : LineFields → Bool) (f : LineFields → ℕ) where
   one true l = zero-add (f l)
   one false l = refl
 
-  pub passed-more : (ls : List Line) (i : ℕ) (l : Line) → i < length ls → l ≡ get_or ls i l → passed p f ls (i + 1) ≡ passed p f ls i + cond (p (line_fields l)) (f (line_fields l)) 0
-  passed-more ls i l below is =
+  pub passed_more : (ls : List Line) (i : ℕ) (l : Line) → i < length ls → l ≡ get_or ls i l → passed p f ls (i + 1) ≡ passed p f ls i + cond (p (line_fields l)) (f (line_fields l)) 0
+  passed_more ls i l below is =
       let here = line_fields (get_or ls i l) in
       let before = map line_fields (take i ls) in
       ap (λ ms. sum_by f (filter p ms)) (map_more line_fields ls i l below)
@@ -37,6 +37,6 @@ module _ (p : LineFields → Bool) (f : LineFields → ℕ) where
   step false l ls h e = e
 
   -- then the sum is above 0 just where a line passes
-  pub some-passed : (ls : List LineFields) → Counts ls → some p ls ≡ ltb 0 (sum_by f (filter p ls))
-  some-passed [] h = refl
-  some-passed (l ∷ ls) h = step (p l) l ls (h 0 l (omega arith)) (some-passed ls (λ i d b. h (suc i) d (omega arith)))
+  pub some_passed : (ls : List LineFields) → Counts ls → some p ls ≡ ltb 0 (sum_by f (filter p ls))
+  some_passed [] h = refl
+  some_passed (l ∷ ls) h = step (p l) l ls (h 0 l (omega arith)) (some_passed ls (λ i d b. h (suc i) d (omega arith)))

@@ -2,7 +2,7 @@ use Rattle.std.proofs.Common.{sym, ap, ◌∙◌, arith}
 use Rattle.std.proofs.lemmas.Result.{err_from_is_err_and}
 use Rattle.filing.specs.Checks.{adding}
 use Rattle.filing.specs.Views.{drafted}
-use Rattle.codec.proofs.Steps.{lined-cut, lined-refused, lined-more}
+use Rattle.codec.proofs.Steps.{lined_cut, lined_refused, lined_more}
 use Rattle.codec.proofs.reader.lined.Goals as goal
 
 pub returns-in-err-found : goal.returns-in-err-found
@@ -10,19 +10,19 @@ returns-in-err-found c =
     let p = err_from_is_err_and c.from-residual.result c.from-residual.ensures.1 in
     rw (p.1, p.2)
     (sym c.loop-i.invariant.0
-    ∙ lined-cut c.args.codes.now c.args.count c.loop-i.i c.loop-i.end c.args.bytes.now (drafted c.loop-i.full) c.loop-i-test.true _ c.in-err-found.ensures.says)
+    ∙ lined_cut c.args.codes.now c.args.count c.loop-i.i c.loop-i.end c.args.bytes.now (drafted c.loop-i.full) c.loop-i-test.true _ c.in-err-found.ensures.says)
 
 pub returns-in-err-add-line : goal.returns-in-err-add-line
 returns-in-err-add-line c =
     let p = err_from_is_err_and c.from-residual-in-err-add-line.result c.from-residual-in-err-add-line.ensures.1 in
     rw (p.1, p.2)
     (sym c.loop-i.invariant.0
-    ∙ lined-refused c.args.codes.now c.args.count c.loop-i.i c.loop-i.end c.args.bytes.now (drafted c.loop-i.full) c.loop-i-test.true _ _ c.in-ok-found.ensures.says
+    ∙ lined_refused c.args.codes.now c.args.count c.loop-i.i c.loop-i.end c.args.bytes.now (drafted c.loop-i.full) c.loop-i-test.true _ _ c.in-ok-found.ensures.says
     (ap (adding (drafted c.loop-i.full)) (sym c.line-fields.ensures) ∙ c.in-err-add-line.ensures.wrote.0))
 
 pub loop-i-preserved : goal.loop-i-preserved
 loop-i-preserved c = (
-  sym (lined-more c.args.codes.now c.args.count c.loop-i.i c.loop-i.end c.args.bytes.now (drafted c.loop-i.full) c.loop-i-test.true _ _ c.in-ok-found.ensures.says
+  sym (lined_more c.args.codes.now c.args.count c.loop-i.i c.loop-i.end c.args.bytes.now (drafted c.loop-i.full) c.loop-i-test.true _ _ c.in-ok-found.ensures.says
       (ap (adding (drafted c.loop-i.full)) (sym c.line-fields.ensures) ∙ c.in-ok-add-line.ensures.wrote))
       ∙ c.loop-i.invariant.0,
   omega (arith, c.in-ok-found.ensures.long.1),

@@ -9,7 +9,7 @@ use Rattle.filing.specs.declared.fields.LineFields.{LineFields}
 use Rattle.filing.specs.declared.filing.Filing.{Filing}
 use Rattle.codec.specs.Fields.{head_field}
 use Rattle.codec.specs.Writing.{pasted, field_bytes, line_bytes, written}
-use Rattle.codec.proofs.Pasting.{length-record, record-parts, same_record}
+use Rattle.codec.proofs.Pasting.{length_record, record_parts, same_record}
 use Rattle.codec.proofs.ReadBack.{read_back}
 use Rattle.codec.proofs.writer.write.Goals as goal
 
@@ -23,7 +23,7 @@ returns-then-buffer-size c =
     let g = fields_of c.filing-report.result.now in
     let s = same_record v row c.written-row.ensures.version c.written-row.ensures.codes (ap fields_of c.filing-report.ensures.is) in
     let size : 6 + length row + 8 * n + 1 + 8 * (length row - n) * c.count.result ≡ length (written (filed c.args.filing.now)) =
-    ap (λ k. 6 + length row + 8 * n + 1 + 8 * (length row - n) * k) c.count.ensures ∙ length-record v row g n c.heads-heads.ensures.counts c.heads-heads.ensures.within ∙ ap length s in
+    ap (λ k. 6 + length row + 8 * n + 1 + 8 * (length row - n) * k) c.count.ensures ∙ length_record v row g n c.heads-heads.ensures.counts c.heads-heads.ensures.within ∙ ap length s in
     record { says = (omega arith, refl); back = λ rest. read_back f rest sound }
 
 pub put-lines-requires : goal.put-lines-requires
@@ -48,14 +48,14 @@ returns c =
     let s = same_record v row c.written-row.ensures.version c.written-row.ensures.codes (ap fields_of c.filing-report.ensures.is) in
     let count : 6 + length row + 8 * n + 1 + 8 * (length row - n) * c.count.result ≡ 6 + length row + 8 * n + 1 + 8 * (length row - n) * length g.lines =
     ap (λ k. 6 + length row + 8 * n + 1 + 8 * (length row - n) * k) c.count.ensures in
-    let size = length-record v row g n c.heads-heads.ensures.counts c.heads-heads.ensures.within in
+    let size = length_record v row g n c.heads-heads.ensures.counts c.heads-heads.ensures.within in
     let whole : 6 + length row + 8 * n + 1 + 8 * (length row - n) * c.count.result ≡ length (written f) = count ∙ size ∙ ap length s in
     record {
       back = λ rest. read_back f rest sound;
       says = (
         omega arith,
         whole,
-        record-parts v row g n c.heads-heads.ensures.counts c.heads-heads.ensures.within old c.put-opening.new.buffer c.put-fields.new.buffer c.put.new.buffer c.put-lines.new.buffer (omega arith)
+        record_parts v row g n c.heads-heads.ensures.counts c.heads-heads.ensures.within old c.put-opening.new.buffer c.put-fields.new.buffer c.put.new.buffer c.put-lines.new.buffer (omega arith)
             c.put-opening.ensures
             (c.put-fields.ensures ∙ ap (λ (h : HeadFields). pasted c.put-opening.new.buffer (6 + length row) (field_bytes (take (n - 0) row) (head_field h))) (c.fields.ensures ∙ c.head.ensures))
             (c.put.ensures ∙ ap (λ k. pasted c.put-fields.new.buffer (6 + length row + 8 * n) (k ∷ [])) c.count-2.ensures)

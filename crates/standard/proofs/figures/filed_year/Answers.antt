@@ -2,7 +2,7 @@ use Rattle.std.proofs.Common.{◌-◌, not, ap, ◌∙◌, arith}
 use Rattle.filing.specs.Views.{fields_of}
 use Rattle.standard.specs.Reference.{of_activity}
 use Rattle.standard.proofs.Filed.{few_lines_filed, summed, nothing, something, figured}
-use Rattle.standard.proofs.Lines.{passed-more}
+use Rattle.standard.proofs.Lines.{passed_more}
 use Rattle.standard.proofs.figures.filed_year.Goals as goal
 
 pub overflow-add-others : goal.overflow-add-others
@@ -13,8 +13,8 @@ overflow-add-made c = omega (arith, few_lines_filed _ _ c.filing-filing.ensures.
 
 pub loop-line-preserved : goal.loop-line-preserved
 loop-line-preserved c =
-    let o = passed-more (λ m. not (of_activity c.args.activity m)) (λ m. m.attributed) c.lines-lines.result.now c.loop-line.line-index c.line-item.result c.loop-line-test.true c.line-item.is in
-    let m = passed-more (of_activity c.args.activity) (λ m. m.production) c.lines-lines.result.now c.loop-line.line-index c.line-item.result c.loop-line-test.true c.line-item.is in
+    let o = passed_more (λ m. not (of_activity c.args.activity m)) (λ m. m.attributed) c.lines-lines.result.now c.loop-line.line-index c.line-item.result c.loop-line-test.true c.line-item.is in
+    let m = passed_more (of_activity c.args.activity) (λ m. m.production) c.lines-lines.result.now c.loop-line.line-index c.line-item.result c.loop-line-test.true c.line-item.is in
     (omega arith, omega arith, omega arith, omega arith)
 
 pub returns-then-made-eq-WITHOUT-LINE : goal.returns-then-made-eq-WITHOUT-LINE

@@ -12,6 +12,6 @@ returns g c =
       used = c.put.ensures.used;
       method = c.put.ensures.method;
       log = ap (λ v. map logged (vec_items v.entries)) c.put.ensures.log ∙ ap (map logged) c.write.ensures.items ∙ simp map-append;
-      log-len = ap (λ v. vec_len v.entries) c.put.ensures.log ∙ c.write.ensures.len;
+      log_len = ap (λ v. vec_len v.entries) c.put.ensures.log ∙ c.write.ensures.len;
       refit = c.put.ensures.refit;
     }

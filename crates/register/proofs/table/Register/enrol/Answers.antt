@@ -3,10 +3,10 @@ use Rattle.std.proofs.lemmas.List.{get_or_default}
 use Rattle.enrolment.specs.Views.{enrolled}
 use Rattle.register.specs.Acceptance.{accepted}
 use Rattle.register.specs.declared.table.Plant.{Plant}
-use Rattle.register.proofs.Enrolling.{enrolled-twice, enrolled-once}
+use Rattle.register.proofs.Enrolling.{enrolled_twice, enrolled_once}
 use Rattle.register.proofs.Looks.{enrolled_as_read}
 use Rattle.register.proofs.Options.{none_of}
-use Rattle.register.proofs.Starts.{enrol-holds}
+use Rattle.register.proofs.Starts.{enrol_holds}
 use Rattle.register.proofs.table.Register.enrol.Goals as goal
 
 pub returns-then-is-taken : goal.returns-then-is-taken
@@ -14,7 +14,7 @@ returns-then-is-taken g c =
     let e = c.in-Ok.enrolment in
     record {
       lives = λ m cs L.
-          enrolled-twice g.M.LimitMethod.meaning m c.args.self.now c.args.fields cs L e c.in-Ok.ensures.0 c.in-Ok.ensures.1
+          enrolled_twice g.M.LimitMethod.meaning m c.args.self.now c.args.fields cs L e c.in-Ok.ensures.0 c.in-Ok.ensures.1
           (enrolled_as_read g.M.LimitMethod.meaning m c.args.self.now (accepted cs) L e.facility e.facility_range.0 e.facility_range.1 c.index-self-i.result _
           (sym c.is-taken.ensures ∙ c.if-is-taken.true));
       refused = refl;
@@ -33,9 +33,9 @@ returns g c =
     let gone = sym (ap (λ (d : Plant). is_some d.enrolment) (get_or_default r.plants i c.index-self-i.result p within)) ∙ sym c.is-taken.ensures ∙ c.if-is-taken.false in
     record {
       lives = λ m cs L.
-          enrolled-once g.M.LimitMethod.meaning m r c.args.fields cs L e c.in-Ok.ensures.0 c.in-Ok.ensures.1 _
+          enrolled_once g.M.LimitMethod.meaning m r c.args.fields cs L e c.in-Ok.ensures.0 c.in-Ok.ensures.1 _
           (enrolled_as_read g.M.LimitMethod.meaning m r (accepted cs) L e.facility low high p _ gone)
-          (enrol-holds g.M.LimitMethod.meaning m r _ (accepted cs) L (enrolled e) low high (get_or r.plants i p) c.admit.new.self (get_or_default r.plants i p (get_or r.plants i p) within)
+          (enrol_holds g.M.LimitMethod.meaning m r _ (accepted cs) L (enrolled e) low high (get_or r.plants i p) c.admit.new.self (get_or_default r.plants i p (get_or r.plants i p) within)
           (none_of (get_or r.plants i p).enrolment gone) e refl (record { places = c.admit.ensures.places; assessed = c.admit.ensures.assessed; enrolment = c.admit.ensures.enrolled }) refl refl refl refl);
       refused = tt;
     }

@@ -2,8 +2,8 @@ use Rattle.std.proofs.Common.{Some, sym, refl, ◌∙◌}
 use Rattle.filing.specs.Views.{filed}
 use Rattle.register.specs.Acceptance.{stands, accepted}
 use Rattle.register.specs.Calls.{file}
-use Rattle.register.proofs.Asking.{asked-unknown, asked-second, asked-acts, actOf, filing-does, file-asks, placed-enrolled, stands-as-read}
-use Rattle.register.proofs.Deeds.{acted-refused}
+use Rattle.register.proofs.Asking.{asked_unknown, asked_second, asked_acts, act_of, filing_does, file_asks, placed_enrolled, stands_as_read}
+use Rattle.register.proofs.Deeds.{acted_refused}
 use Rattle.register.proofs.table.Register.file.Goals as goal
 
 pub returns-in-default : goal.returns-in-default
@@ -14,7 +14,7 @@ returns-in-default g c =
     let f-is = c.facility-of-facility.ensures.value in
     let y-is = c.year-of-year.ensures.value in
     record {
-      lives = λ m cs L. asked-unknown g.M.LimitMethod.meaning m c.args.self.now (file x) cs L f (stands (accepted cs) f y) (file-asks x f y f-is y-is (accepted cs)) c.in-default.ensures.1;
+      lives = λ m cs L. asked_unknown g.M.LimitMethod.meaning m c.args.self.now (file x) cs L f (stands (accepted cs) f y) (file_asks x f y f-is y-is (accepted cs)) c.in-default.ensures.1;
       refused = refl;
     }
 
@@ -30,9 +30,9 @@ returns-then-is-some g c =
     let placed = c.in-Ok.ensures in
     record {
       lives = λ m cs L.
-          asked-second g.M.LimitMethod.meaning m c.args.self.now (file x) cs L f (stands (accepted cs) f y) (file-asks x f y f-is y-is (accepted cs))
-          (placed-enrolled g.M.LimitMethod.meaning m c.args.self.now (accepted cs) L f y e p placed)
-          (stands-as-read g.M.LimitMethod.meaning m c.args.self.now (accepted cs) L f y e p placed _ (sym c.if-is-some.true ∙ c.is-some.ensures));
+          asked_second g.M.LimitMethod.meaning m c.args.self.now (file x) cs L f (stands (accepted cs) f y) (file_asks x f y f-is y-is (accepted cs))
+          (placed_enrolled g.M.LimitMethod.meaning m c.args.self.now (accepted cs) L f y e p placed)
+          (stands_as_read g.M.LimitMethod.meaning m c.args.self.now (accepted cs) L f y e p placed _ (sym c.if-is-some.true ∙ c.is-some.ensures));
       refused = refl;
     }
 
@@ -48,9 +48,9 @@ returns g c =
     let placed = c.in-Ok.ensures in
     record {
       lives = λ m cs L.
-          asked-acts g.M.LimitMethod.meaning g.met.M.LimitMethod.later m c.args.self.now c.act.new.self (file x) cs L (actOf x f y f-is y-is) (filing-does x f y f-is y-is) refl
-          (stands (accepted cs) f y) (file-asks x f y f-is y-is (accepted cs)) e p (Some c.args.signed) placed c.year-of-year.ensures.range.0 c.year-of-year.ensures.range.1
-          (stands-as-read g.M.LimitMethod.meaning m c.args.self.now (accepted cs) L f y e p placed _ (sym c.if-is-some.false ∙ c.is-some.ensures))
+          asked_acts g.M.LimitMethod.meaning g.met.M.LimitMethod.later m c.args.self.now c.act.new.self (file x) cs L (act_of x f y f-is y-is) (filing_does x f y f-is y-is) refl
+          (stands (accepted cs) f y) (file_asks x f y f-is y-is (accepted cs)) e p (Some c.args.signed) placed c.year-of-year.ensures.range.0 c.year-of-year.ensures.range.1
+          (stands_as_read g.M.LimitMethod.meaning m c.args.self.now (accepted cs) L f y e p placed _ (sym c.if-is-some.false ∙ c.is-some.ensures))
           refl c.act.result c.act.ensures;
-      refused = acted-refused g.M.LimitMethod.meaning c.args.self.now c.act.new.self f y e p (Some c.args.signed) c.act.result c.act.ensures;
+      refused = acted_refused g.M.LimitMethod.meaning c.args.self.now c.act.new.self f y e p (Some c.args.signed) c.act.result c.act.ensures;
     }

@@ -2,7 +2,7 @@ use Rattle.std.proofs.Common.{◌≡◌, not, length, is_some, Some, None, sym, 
 use Rattle.std.specs.Option.{option_map}
 use Rattle.register.specs.Acceptance.{accepted}
 use Rattle.register.specs.Views.{assessment_fields}
-use Rattle.register.proofs.Looks.{outside, shown-outside, shown-enrolled, shown-absent, enrolled_as_read, look-unknown, look-enrolled}
+use Rattle.register.proofs.Looks.{outside, shown_outside, shown_enrolled, shown_absent, enrolled_as_read, look_unknown, look_enrolled}
 use Rattle.register.proofs.table.Register.look_up.Goals as goal
 
 pub returns-then-facility-lt1 : goal.returns-then-facility-lt1
@@ -10,8 +10,8 @@ returns-then-facility-lt1 g c =
     let f = c.args.facility in
     let out = outside 1 4 f c.then-facility-lt1.either in
     record {
-      shows = shown-outside c.args.self.now f c.args.year out;
-      answers = λ m cs L. look-unknown g.M.LimitMethod.meaning m c.args.self.now cs L f c.args.year (ap is_some (L.no-others f out));
+      shows = shown_outside c.args.self.now f c.args.year out;
+      answers = λ m cs L. look_unknown g.M.LimitMethod.meaning m c.args.self.now cs L f c.args.year (ap is_some (L.no-others f out));
     }
 
 pub returns-then-is-none : goal.returns-then-is-none
@@ -21,9 +21,9 @@ returns-then-is-none g c =
     let p = c.index-plants-facility.result in
     let gone = c.is-none.ensures ∙ ap not c.if-is-none.true in
     record {
-      shows = shown-absent c.args.self.now f c.args.year c.if-facility-lt1.false c.if-facility-gt-FACILITIES.false four p gone;
+      shows = shown_absent c.args.self.now f c.args.year c.if-facility-lt1.false c.if-facility-gt-FACILITIES.false four p gone;
       answers = λ m cs L.
-          look-unknown g.M.LimitMethod.meaning m c.args.self.now cs L f c.args.year
+          look_unknown g.M.LimitMethod.meaning m c.args.self.now cs L f c.args.year
           (enrolled_as_read g.M.LimitMethod.meaning m c.args.self.now (accepted cs) L f c.if-facility-lt1.false c.if-facility-gt-FACILITIES.false p _ gone);
     }
 
@@ -34,13 +34,13 @@ returns-in-Some g c =
     let p = c.index-plants-facility.result in
     let there = c.is-none.ensures ∙ ap not c.if-is-none.false in
     let shows =
-    shown-enrolled c.args.self.now f c.args.year c.if-facility-lt1.false c.if-facility-gt-FACILITIES.false four p there
+    shown_enrolled c.args.self.now f c.args.year c.if-facility-lt1.false c.if-facility-gt-FACILITIES.false four p there
     ∙ ap (option_map assessment_fields) (sym c.assessed-at.ensures ∙ c.in-Some.is)
     in
     record {
       shows = shows;
       answers = λ m cs L.
-          look-enrolled g.M.LimitMethod.meaning m c.args.self.now cs L f c.args.year
+          look_enrolled g.M.LimitMethod.meaning m c.args.self.now cs L f c.args.year
           (enrolled_as_read g.M.LimitMethod.meaning m c.args.self.now (accepted cs) L f c.if-facility-lt1.false c.if-facility-gt-FACILITIES.false p _ there)
           (Some (assessment_fields c.in-Some.assessment)) shows;
     }
@@ -52,13 +52,13 @@ returns-in-None g c =
     let p = c.index-plants-facility.result in
     let there = c.is-none.ensures ∙ ap not c.if-is-none.false in
     let shows =
-    shown-enrolled c.args.self.now f c.args.year c.if-facility-lt1.false c.if-facility-gt-FACILITIES.false four p there
+    shown_enrolled c.args.self.now f c.args.year c.if-facility-lt1.false c.if-facility-gt-FACILITIES.false four p there
     ∙ ap (option_map assessment_fields) (sym c.assessed-at.ensures ∙ c.in-None.is)
     in
     record {
       shows = shows;
       answers = λ m cs L.
-          look-enrolled g.M.LimitMethod.meaning m c.args.self.now cs L f c.args.year
+          look_enrolled g.M.LimitMethod.meaning m c.args.self.now cs L f c.args.year
           (enrolled_as_read g.M.LimitMethod.meaning m c.args.self.now (accepted cs) L f c.if-facility-lt1.false c.if-facility-gt-FACILITIES.false p _ there)
           None shows;
     }

@@ -1,10 +1,10 @@
 use Rattle.std.proofs.Common.{◌≡◌, ◌+◌, ◌-◌, take, vec_items, vec_len, sym, refl, ap, ◌∙◌}
 use Rattle.register.specs.Acceptance.{accepted}
 use Rattle.register.specs.Answers.{numbered, granted, answer_by}
-use Rattle.register.specs.Calls.{takeBack, takesBack}
-use Rattle.register.proofs.Asking.{plant-at, plant-read}
-use Rattle.register.proofs.Backs.{taken-unrefused, taken-known, taken-holds}
-use Rattle.register.proofs.Keeping.{accepted-lives}
+use Rattle.register.specs.Calls.{take_back, takes_back}
+use Rattle.register.proofs.Asking.{plant_at, plant_read}
+use Rattle.register.proofs.Backs.{taken_unrefused, taken_known, taken_holds}
+use Rattle.register.proofs.Keeping.{accepted_lives}
 use Rattle.register.proofs.table.Register.take_back.Goals as goal
 
 pub returns-in-default : goal.returns-in-default
@@ -15,10 +15,10 @@ returns-in-default g c =
     let full : vec_len v ≡ 0 → ⊥ = λ h. c.if-len-eq-BARE.false (c.len.ensures ∙ h) in
     record {
       lives = λ m cs L.
-          let read = plant-read g.M.LimitMethod.meaning m r (accepted cs) L entry.facility entry.facility_range.0 entry.facility_range.1 in
-          let d = plant-at g.M.LimitMethod.meaning m r (accepted cs) L entry.facility in
+          let read = plant_read g.M.LimitMethod.meaning m r (accepted cs) L entry.facility entry.facility_range.0 entry.facility_range.1 in
+          let d = plant_at g.M.LimitMethod.meaning m r (accepted cs) L entry.facility in
           absurd
-          (taken-known g.M.LimitMethod.meaning m r (accepted cs) L full entry (take (vec_len v - 1) (vec_items v)) c.latest-entry.ensures d read
+          (taken_known g.M.LimitMethod.meaning m r (accepted cs) L full entry (take (vec_len v - 1) (vec_items v)) c.latest-entry.ensures d read
           (c.in-default.ensures d read));
       refused = refl;
     }
@@ -33,15 +33,15 @@ returns g c =
     let len : vec_len c.put.new.self.log.entries + 1 ≡ vec_len v = ap (λ w. vec_len w.entries + 1) c.put.ensures.log ∙ c.strike.ensures.len in
     record {
       lives = λ m cs L.
-          let read = plant-read g.M.LimitMethod.meaning m r (accepted cs) L entry.facility entry.facility_range.0 entry.facility_range.1 in
-          let d = plant-at g.M.LimitMethod.meaning m r (accepted cs) L entry.facility in
-          let none = taken-unrefused g.M.LimitMethod.meaning m r (accepted cs) L full c.if-self-ge-LAST-NUMBER.false in
+          let read = plant_read g.M.LimitMethod.meaning m r (accepted cs) L entry.facility entry.facility_range.0 entry.facility_range.1 in
+          let d = plant_at g.M.LimitMethod.meaning m r (accepted cs) L entry.facility in
+          let none = taken_unrefused g.M.LimitMethod.meaning m r (accepted cs) L full c.if-self-ge-LAST-NUMBER.false in
           let taken =
-          taken-holds g.M.LimitMethod.meaning m r (accepted cs) L full entry (take (vec_len v - 1) (vec_items v)) c.latest-entry.ensures g.met.M.LimitMethod.later c.put.new.self items len d read
+          taken_holds g.M.LimitMethod.meaning m r (accepted cs) L full entry (take (vec_len v - 1) (vec_items v)) c.latest-entry.ensures g.met.M.LimitMethod.later c.put.new.self items len d read
           c.in-Some.enrolment (c.in-Some.ensures d read) c.put.result c.put.ensures.number c.put.ensures.used c.put.ensures.method c.put.ensures.refit
           in (
-            accepted-lives g.M.LimitMethod.meaning m c.put.new.self takeBack cs takesBack none refl taken.0,
-            ap numbered taken.1 ∙ sym (ap (λ o. answer_by o (granted (g.M.LimitMethod.meaning m) takeBack (accepted cs))) none),
+            accepted_lives g.M.LimitMethod.meaning m c.put.new.self take_back cs takes_back none refl taken.0,
+            ap numbered taken.1 ∙ sym (ap (λ o. answer_by o (granted (g.M.LimitMethod.meaning m) take_back (accepted cs))) none),
           );
       refused = tt;
     }

@@ -1,8 +1,8 @@
 use Rattle.std.proofs.Common.{not, None, sym, refl, ap, ◌∙◌}
 use Rattle.register.specs.Acceptance.{vacant, accepted}
 use Rattle.register.specs.Calls.{withdraw, withdrawal}
-use Rattle.register.proofs.Asking.{asked-unknown, asked-second, asked-acts, placed-enrolled, stands-as-read}
-use Rattle.register.proofs.Deeds.{acted-refused}
+use Rattle.register.proofs.Asking.{asked_unknown, asked_second, asked_acts, placed_enrolled, stands_as_read}
+use Rattle.register.proofs.Deeds.{acted_refused}
 use Rattle.register.proofs.table.Register.withdraw.Goals as goal
 
 pub returns-in-default : goal.returns-in-default
@@ -10,7 +10,7 @@ returns-in-default g c =
     let f = c.args.facility in
     let y = c.args.year in
     record {
-      lives = λ m cs L. asked-unknown g.M.LimitMethod.meaning m c.args.self.now (withdraw f y) cs L f (vacant (accepted cs) f y) refl c.in-default.ensures.1;
+      lives = λ m cs L. asked_unknown g.M.LimitMethod.meaning m c.args.self.now (withdraw f y) cs L f (vacant (accepted cs) f y) refl c.in-default.ensures.1;
       refused = refl;
     }
 
@@ -23,9 +23,9 @@ returns-then-is-none g c =
     let placed = c.in-Ok.ensures in
     record {
       lives = λ m cs L.
-          asked-second g.M.LimitMethod.meaning m c.args.self.now (withdraw f y) cs L f (vacant (accepted cs) f y) refl
-          (placed-enrolled g.M.LimitMethod.meaning m c.args.self.now (accepted cs) L f y e p placed)
-          (ap not (stands-as-read g.M.LimitMethod.meaning m c.args.self.now (accepted cs) L f y e p placed _ (sym (c.is-none.ensures ∙ ap not c.if-is-none.true))));
+          asked_second g.M.LimitMethod.meaning m c.args.self.now (withdraw f y) cs L f (vacant (accepted cs) f y) refl
+          (placed_enrolled g.M.LimitMethod.meaning m c.args.self.now (accepted cs) L f y e p placed)
+          (ap not (stands_as_read g.M.LimitMethod.meaning m c.args.self.now (accepted cs) L f y e p placed _ (sym (c.is-none.ensures ∙ ap not c.if-is-none.true))));
       refused = refl;
     }
 
@@ -44,9 +44,9 @@ returns g c =
     let years = placed.year (c.is-none.ensures ∙ ap not c.if-is-none.false) in
     record {
       lives = λ m cs L.
-          asked-acts g.M.LimitMethod.meaning g.met.M.LimitMethod.later m c.args.self.now c.act.new.self (withdraw f y) cs L (withdrawal f y) refl refl
+          asked_acts g.M.LimitMethod.meaning g.met.M.LimitMethod.later m c.args.self.now c.act.new.self (withdraw f y) cs L (withdrawal f y) refl refl
           (vacant (accepted cs) f y) refl e p None placed years.0 years.1
-          (ap not (stands-as-read g.M.LimitMethod.meaning m c.args.self.now (accepted cs) L f y e p placed _ (sym (c.is-none.ensures ∙ ap not c.if-is-none.false))))
+          (ap not (stands_as_read g.M.LimitMethod.meaning m c.args.self.now (accepted cs) L f y e p placed _ (sym (c.is-none.ensures ∙ ap not c.if-is-none.false))))
           refl c.act.result c.act.ensures;
-      refused = acted-refused g.M.LimitMethod.meaning c.args.self.now c.act.new.self f y e p None c.act.result c.act.ensures;
+      refused = acted_refused g.M.LimitMethod.meaning c.args.self.now c.act.new.self f y e p None c.act.result c.act.ensures;
     }
