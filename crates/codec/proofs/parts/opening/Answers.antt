@@ -7,7 +7,7 @@ use Rattle.codec.proofs.parts.opening.Goals as goal
 pub returns : goal.returns
 returns c =
     let bs = c.args.bytes.now in
-    let e = simp (take_rest, get_or-drop) at c.from-be-bytes.ensures in
+    let e = simp (take_rest, get_or-drop) at c.from_be_bytes.ensures in
     let h = c.in-79 in
     let k = c.in-len2-up in
     let l : 3 + 2 ≤ length bs = grind (arith, nat_tests) in

@@ -5,25 +5,25 @@ use Rattle.filing.specs.Views.{drafted}
 use Rattle.codec.proofs.Steps.{lined_cut, lined_refused, lined_more}
 use Rattle.codec.proofs.reader.lined.Goals as goal
 
-pub returns-in-err-found : goal.returns-in-err-found
-returns-in-err-found c =
-    let p = err_from_is_err_and c.from-residual.result c.from-residual.ensures.1 in
+pub returns-in_err-found : goal.returns-in_err-found
+returns-in_err-found c =
+    let p = err_from_is_err_and c.from_residual.result c.from_residual.ensures.1 in
     rw (p.1, p.2)
     (sym c.loop-i.invariant.0
-    ∙ lined_cut c.args.codes.now c.args.count c.loop-i.i c.loop-i.end c.args.bytes.now (drafted c.loop-i.full) c.loop-i-test.true _ c.in-err-found.ensures.says)
+    ∙ lined_cut c.args.codes.now c.args.count c.loop-i.i c.loop-i.end c.args.bytes.now (drafted c.loop-i.full) c.loop-i-test.true _ c.in_err-found.ensures.says)
 
-pub returns-in-err-add-line : goal.returns-in-err-add-line
-returns-in-err-add-line c =
-    let p = err_from_is_err_and c.from-residual-in-err-add-line.result c.from-residual-in-err-add-line.ensures.1 in
+pub returns-in_err-add_line : goal.returns-in_err-add_line
+returns-in_err-add_line c =
+    let p = err_from_is_err_and c.from_residual-in_err-add_line.result c.from_residual-in_err-add_line.ensures.1 in
     rw (p.1, p.2)
     (sym c.loop-i.invariant.0
-    ∙ lined_refused c.args.codes.now c.args.count c.loop-i.i c.loop-i.end c.args.bytes.now (drafted c.loop-i.full) c.loop-i-test.true _ _ c.in-ok-found.ensures.says
-    (ap (adding (drafted c.loop-i.full)) (sym c.line-fields.ensures) ∙ c.in-err-add-line.ensures.wrote.0))
+    ∙ lined_refused c.args.codes.now c.args.count c.loop-i.i c.loop-i.end c.args.bytes.now (drafted c.loop-i.full) c.loop-i-test.true _ _ c.in_ok-found.ensures.says
+    (ap (adding (drafted c.loop-i.full)) (sym c.line_fields.ensures) ∙ c.in_err-add_line.ensures.wrote.0))
 
 pub loop-i-preserved : goal.loop-i-preserved
 loop-i-preserved c = (
-  sym (lined_more c.args.codes.now c.args.count c.loop-i.i c.loop-i.end c.args.bytes.now (drafted c.loop-i.full) c.loop-i-test.true _ _ c.in-ok-found.ensures.says
-      (ap (adding (drafted c.loop-i.full)) (sym c.line-fields.ensures) ∙ c.in-ok-add-line.ensures.wrote))
+  sym (lined_more c.args.codes.now c.args.count c.loop-i.i c.loop-i.end c.args.bytes.now (drafted c.loop-i.full) c.loop-i-test.true _ _ c.in_ok-found.ensures.says
+      (ap (adding (drafted c.loop-i.full)) (sym c.line_fields.ensures) ∙ c.in_ok-add_line.ensures.wrote))
       ∙ c.loop-i.invariant.0,
-  omega (arith, c.in-ok-found.ensures.long.1),
+  omega (arith, c.in_ok-found.ensures.long.1),
 )

@@ -12,11 +12,11 @@ use Rattle.codec.proofs.Prefixes.{followed, beginning, within}
 use Rattle.codec.proofs.WriteBack.{write_back}
 use Rattle.codec.proofs.reader.read.Goals as goal
 
-pub returns-in-err-used : goal.returns-in-err-used
-returns-in-err-used c =
+pub returns-in_err-used : goal.returns-in_err-used
+returns-in_err-used c =
     let bs = c.args.bytes.now in
-    let h = c.in-err-used.ensures in
-    let p = err_from_is_err_and c.from-residual.result c.from-residual.ensures.1 in
+    let h = c.in_err-used.ensures in
+    let p = err_from_is_err_and c.from_residual.result c.from_residual.ensures.1 in
     rw (p.1, p.2)
     (record {
       says = (h, refl);
@@ -31,9 +31,9 @@ returns-in-err-used c =
 pub returns : goal.returns
 returns c =
     let bs = c.args.bytes.now in
-    let f = filed c.in-ok-used.signed in
-    let x : ℕ × ℕ × FilingFields = (c.in-ok-used.used, c.in-ok-used.version, f) in
-    let h : reading bs ≡ Ok x = c.in-ok-used.ensures in
+    let f = filed c.in_ok-used.signed in
+    let x : ℕ × ℕ × FilingFields = (c.in_ok-used.used, c.in_ok-used.version, f) in
+    let h : reading bs ≡ Ok x = c.in_ok-used.ensures in
     record {
       says = h;
       within = within bs x h;
@@ -41,5 +41,5 @@ returns c =
       differs = λ n e. absurd (ok_err e);
       followed = λ n v e rest. subst (λ (y : ℕ × ℕ). reading (take y.0 bs ++ rest) ≡ reading bs) (ok_inj e) (followed bs x h rest ∙ sym h);
       cuts = λ n v e k. subst (λ (y : ℕ × ℕ). k < y.0 → reading (take k bs) ≡ Err (cut k)) (ok_inj e) (beginning bs x h k);
-      back = λ n e. write_back bs x (λ i. (c.type-inv.bytes i).fits) h (ap (λ (y : ℕ × ℕ). y.1) (ok_inj e)) ∙ ap (λ (y : ℕ × ℕ). take y.0 bs) (ok_inj e);
+      back = λ n e. write_back bs x (λ i. (c.type_inv.bytes i).fits) h (ap (λ (y : ℕ × ℕ). y.1) (ok_inj e)) ∙ ap (λ (y : ℕ × ℕ). take y.0 bs) (ok_inj e);
     }

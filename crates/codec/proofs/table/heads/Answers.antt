@@ -2,8 +2,8 @@ use Rattle.std.proofs.Common.{arith}
 use Rattle.codec.proofs.Schemas.{heads_line, heads_head, heads_all}
 use Rattle.codec.proofs.table.heads.Goals as goal
 
-pub returns-then-code-ge-FIRST-OF-LINE : goal.returns-then-code-ge-FIRST-OF-LINE
-returns-then-code-ge-FIRST-OF-LINE c =
+pub returns-then-code-ge-FIRST_OF_LINE : goal.returns-then-code-ge-FIRST_OF_LINE
+returns-then-code-ge-FIRST_OF_LINE c =
     let e = heads_line c.args.codes.now c.loop-i.i (omega arith) (omega arith) in
     record { counts = omega arith; within = omega arith }
 

@@ -14,7 +14,7 @@ loop-code-preserved c =
     let r : c.args.at + 8 * length c.args.codes.now ≤ length c.args.buffer.now = c.requires in
     let i = c.loop-code.code-index in
     let code = get_or c.args.codes.now i 0 in
-    let eight = c.to-be-bytes.ensures ∙ bytes_eight c.value.result ∙ ap (bytes_of 8) c.value.ensures in (
+    let eight = c.to_be_bytes.ensures ∙ bytes_eight c.value.result ∙ ap (bytes_of 8) c.value.ensures in (
       c.put.ensures
           ∙ ap (pasted c.loop-code.buffer c.loop-code.end) eight
           ∙ pasted_more (λ k. bytes_of 8 (value_of c.args.fields k)) 8 (λ k. refl) c.args.buffer.now c.args.at c.args.codes.now i code c.loop-code.buffer c.loop-code.end

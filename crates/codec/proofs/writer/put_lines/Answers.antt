@@ -11,13 +11,13 @@ use Rattle.codec.proofs.writer.put_lines.Goals as goal
 pub loop-line-init : goal.loop-line-init
 loop-line-init c = (sym (pasted_none c.args.buffer.now c.args.at), omega (arith, mul-zero (8 * length c.args.codes.now)))
 
-pub put-fields-requires : goal.put-fields-requires
-put-fields-requires c =
+pub put_fields-requires : goal.put_fields-requires
+put_fields-requires c =
     let r = room_more (8 * length c.args.codes.now) c.loop-line.line-index (length c.args.lines.now) c.args.at c.loop-line.end (length c.args.buffer.now) c.loop-line-test.true c.requires.room c.loop-line.invariant.1 in
     omega arith
 
-pub overflow-add-end : goal.overflow-add-end
-overflow-add-end c =
+pub overflow_add-end : goal.overflow_add-end
+overflow_add-end c =
     let r = room_more (8 * length c.args.codes.now) c.loop-line.line-index (length c.args.lines.now) c.args.at c.loop-line.end (length c.args.buffer.now) c.loop-line-test.true c.requires.room c.loop-line.invariant.1 in
     omega arith
 
@@ -30,7 +30,7 @@ loop-line-preserved c =
     let at : line_fields line ≡ get_or (map line_fields lines) i (line_fields line) = ap line_fields c.line-item.is ∙ sym (get_or-map line_fields lines i line (line_fields line) c.loop-line-test.true) in
     let here : i < length (map line_fields lines) = omega (arith, length-map lines line_fields) in
     let r = room_more (8 * length codes) i (length lines) c.args.at c.loop-line.end (length c.args.buffer.now) c.loop-line-test.true c.requires.room c.loop-line.invariant.1 in (
-      c.put-fields.ensures
+      c.put_fields.ensures
           ∙ ap (λ (l : LineFields). pasted c.loop-line.buffer c.loop-line.end (line_bytes codes l)) c.fields.ensures
           ∙ pasted_more (line_bytes codes) (8 * length codes) (λ l. length_fields codes (line_field l)) c.args.buffer.now c.args.at (map line_fields lines) i (line_fields line) c.loop-line.buffer c.loop-line.end
           at c.loop-line.invariant.0 c.loop-line.invariant.1 here (omega arith),

@@ -9,6 +9,6 @@ pub returns : goal.returns
 returns c =
     opening_parts c.args.buffer.now c.put.new.buffer c.put-2.new.buffer c.put-3.new.buffer _ (bytes_of 2 c.args.row.version) c.args.row.codes.now _ refl c.requires.room
     c.put.ensures
-    (c.put-2.ensures ∙ ap (pasted c.put.new.buffer 3) (c.to-be-bytes.ensures ∙ bytes_two c.args.row.version))
+    (c.put-2.ensures ∙ ap (pasted c.put.new.buffer 3) (c.to_be_bytes.ensures ∙ bytes_two c.args.row.version))
     c.put-3.ensures
     c.put-4.ensures

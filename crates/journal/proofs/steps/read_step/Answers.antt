@@ -5,23 +5,23 @@ use Rattle.journal.specs.Words.{contents}
 use Rattle.journal.proofs.Readings.{none, on, told}
 use Rattle.journal.proofs.steps.read_step.Goals as goal
 
-pub returns-in-default : goal.returns-in-default
-returns-in-default c =
+pub returns-in_default : goal.returns-in_default
+returns-in_default c =
     let e = none c.args.words.now (omega (arith, ltb-true)) in
     let laws = told (contents c.args.words.now) _ e in
     record { says = e; means = laws.0; reads = laws.1 }
 
-pub returns-in-err-named : goal.returns-in-err-named
-returns-in-err-named c =
-    let p = err_from_is_err_and c.from-residual.result c.from-residual.ensures.1 in
+pub returns-in_err-named : goal.returns-in_err-named
+returns-in_err-named c =
+    let p = err_from_is_err_and c.from_residual.result c.from_residual.ensures.1 in
     let some : 1 ≤ length c.args.words.now = omega (arith, ltb-false) in
-    let e = p.1 ∙ ap Err p.2 ∙ on c.args.words.now _ _ some c.in-err-named.ensures in
+    let e = p.1 ∙ ap Err p.2 ∙ on c.args.words.now _ _ some c.in_err-named.ensures in
     let laws = told (contents c.args.words.now) _ e in
     record { says = e; means = laws.0; reads = laws.1 }
 
 pub returns : goal.returns
 returns c =
     let some : 1 ≤ length c.args.words.now = omega (arith, ltb-false) in
-    let e = on c.args.words.now _ _ some c.in-ok-named.ensures in
+    let e = on c.args.words.now _ _ some c.in_ok-named.ensures in
     let laws = told (contents c.args.words.now) _ e in
     record { says = e; means = laws.0; reads = laws.1 }

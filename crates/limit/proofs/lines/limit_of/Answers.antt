@@ -26,5 +26,5 @@ unfolding limit_of
 returns c =
     let yield = contribution c.args.calculation (enrolled c.args.enrolment.now) (filings c.args.places.now) c.args.year in
     let all = sum_all yield _ _ _ _ c.loop-i.invariant.0 c.loop-i-test.false in
-    let value = ap limit c.nearest-whole.ensures.value ∙ ap in_tonnes (all ∙ ap (summed yield 1) c.lines-lines.ensures.fields) in
+    let value = ap limit c.nearest_whole.ensures.value ∙ ap in_tonnes (all ∙ ap (summed yield 1) c.lines-lines.ensures.fields) in
     record { value = value; means = subst (Means yield (fields_of c.args.filing.now).lines) (sym value) (means yield (fields_of c.args.filing.now).lines) }

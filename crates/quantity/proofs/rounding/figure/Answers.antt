@@ -4,4 +4,4 @@ use Rattle.quantity.proofs.rounding.figure.Goals as goal
 
 pub returns : goal.returns
 unfolding figure
-returns c = record { value = c.nearest-whole.ensures.value; near = from_nearest _ _ _ c.nearest-whole.ensures.near }
+returns c = record { value = c.nearest_whole.ensures.value; near = from_nearest _ _ _ c.nearest_whole.ensures.near }

@@ -5,8 +5,8 @@ use Rattle.quantity.proofs.Nearest.{nearest_near, nearest_only}
 use Rattle.quantity.proofs.rounding.nearest_whole.Goals as goal
 
 -- the quotient passes its numerator by one at most
-pub overflow-cast-result : goal.overflow-cast-result
-overflow-cast-result c =
+pub overflow_cast-result : goal.overflow_cast-result
+overflow_cast-result c =
     let twice : 2 * c.args.q.num ≤ 2 * c.args.q.den * c.args.q.num = mul-le-mul_right c.args.q.num (omega arith) in
     let one_more = mul-add (2 * c.args.q.den) c.args.q.num 1 in
     record { fits = lt_of_le_of_lt (div-le_of_le-mul (2 * c.args.q.den) {n = c.args.q.num + 1} (omega arith)) (omega arith) }

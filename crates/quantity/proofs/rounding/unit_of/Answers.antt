@@ -5,15 +5,15 @@ use Rattle.quantity.proofs.rounding.unit_of.Goals as goal
 pub loop-unit-init : goal.loop-unit-init
 loop-unit-init c = reached_one (c.args.q.num / c.args.q.den) 1
 
-pub nonzero-div-whole-in-loop-unit : goal.nonzero-div-whole-in-loop-unit
-nonzero-div-whole-in-loop-unit c = reached_positive _ _ _ c.loop-unit.invariant
+pub nonzero_div-whole-in-loop-unit : goal.nonzero_div-whole-in-loop-unit
+nonzero_div-whole-in-loop-unit c = reached_positive _ _ _ c.loop-unit.invariant
 
 -- while the loop goes on, a thousand units do not pass the whole part
 thousand : (c : goal.In-loop-unit) → 1000 * c.loop-unit.unit ≤ c.args.q.num / c.args.q.den
 thousand c = (le-div_iff_mul-le (reached_positive _ _ _ c.loop-unit.invariant)).0 (omega arith)
 
-pub overflow-mul-unit : goal.overflow-mul-unit
-overflow-mul-unit c = omega (arith, thousand c, div-le_self c.args.q.num c.args.q.den)
+pub overflow_mul-unit : goal.overflow_mul-unit
+overflow_mul-unit c = omega (arith, thousand c, div-le_self c.args.q.num c.args.q.den)
 
 pub loop-unit-smaller : goal.loop-unit-smaller
 loop-unit-smaller c = omega (arith, thousand c, reached_positive _ _ _ c.loop-unit.invariant)

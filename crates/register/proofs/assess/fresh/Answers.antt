@@ -7,4 +7,4 @@ pub returns-in-None : goal.returns-in-None
 returns-in-None g c = anew_is (g.M.LimitMethod.meaning c.args.method.now) (enrolled c.args.enrolment.now) c.args.places.now c.args.i c.args.number _ None (omega arith) c.in-None.is
 
 pub returns-in-Some : goal.returns-in-Some
-returns-in-Some g c = anew_some (g.M.LimitMethod.meaning c.args.method.now) (enrolled c.args.enrolment.now) c.args.places.now c.args.i c.args.number _ c.in-Some.signed _ _ (omega arith) c.in-Some.is c.outcome-of-outcome.ensures c.assessment-of.ensures
+returns-in-Some g c = anew_some (g.M.LimitMethod.meaning c.args.method.now) (enrolled c.args.enrolment.now) c.args.places.now c.args.i c.args.number _ c.in-Some.signed _ _ (omega arith) c.in-Some.is c.outcome_of-outcome.ensures c.assessment_of.ensures

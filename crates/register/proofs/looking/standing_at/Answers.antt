@@ -8,6 +8,6 @@ returns c =
     record {
       filing =
           ap filing_at (sym c.index-places-year.is)
-          ∙ stands_at c.args.places.now c.args.year _ (omega (arith, c.told-places)) c.if-year-lt-FIRST-YEAR.false (omega (arith, c.told-places)) c.index-places-year.is;
-      placed = λ h. (c.if-year-lt-FIRST-YEAR.false, c.if-year-gt-LAST-YEAR.false);
+          ∙ stands_at c.args.places.now c.args.year _ (omega (arith, c.told-places)) c.if-year-lt-FIRST_YEAR.false (omega (arith, c.told-places)) c.index-places-year.is;
+      placed = λ h. (c.if-year-lt-FIRST_YEAR.false, c.if-year-gt-LAST_YEAR.false);
     }

@@ -9,7 +9,7 @@ unfolding base_year
 loop-year-init c = refl
 
 pub loop-year-preserved : goal.loop-year-preserved
-loop-year-preserved c = least_miss _ _ _ _ c.loop-year.invariant c.loop-year-test.true c.in-default.ensures
+loop-year-preserved c = least_miss _ _ _ _ c.loop-year.invariant c.loop-year-test.true c.in_default.ensures
 
 pub returns-in-Some : goal.returns-in-Some
 returns-in-Some c =

@@ -12,7 +12,7 @@ loop-line-init c =
 
 pub loop-line-preserved : goal.loop-line-preserved
 loop-line-preserved c = (
-  adds_line c.args.unit c.args.year _ _ _ _ _ _ _ c.loop-line-test.true c.line-item.is c.loop-line.invariant.0 c.added-by-line-added.ensures.adds,
+  adds_line c.args.unit c.args.year _ _ _ _ _ _ _ c.loop-line-test.true c.line-item.is c.loop-line.invariant.0 c.added_by_line-added.ensures.adds,
   omega arith,
   c.loop-line.invariant.2,
 )

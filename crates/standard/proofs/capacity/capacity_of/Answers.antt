@@ -6,7 +6,7 @@ use Rattle.standard.proofs.capacity.capacity_of.Goals as goal
 
 pub loop-i-preserved : goal.loop-i-preserved
 loop-i-preserved c = (
-  adds_place c.args.unit 2017 _ _ _ _ _ _ _ c.loop-i-test.true c.index-past-i.is c.loop-i.invariant.0 c.added-by-place-added.ensures.adds,
+  adds_place c.args.unit 2017 _ _ _ _ _ _ _ c.loop-i-test.true c.index-past-i.is c.loop-i.invariant.0 c.added_by_place-added.ensures.adds,
   omega arith,
 )
 
@@ -14,7 +14,7 @@ pub returns : goal.returns
 unfolding additions triggering_megawatts other_megawatts
 returns c =
     let all = adds_places_all c.args.unit 2017 _ _ _ _ c.loop-i-test.false c.loop-i.invariant.0 in
-    let adds = subst (λ ps. Adds c.args.unit (dated_from 2017 ps) c.loop-i.triggering c.loop-i.other) c.up-to-past.ensures.value all in
+    let adds = subst (λ ps. Adds c.args.unit (dated_from 2017 ps) c.loop-i.triggering c.loop-i.other) c.up_to-past.ensures.value all in
     record {
       triggering = adds.triggering;
       other = adds.other;

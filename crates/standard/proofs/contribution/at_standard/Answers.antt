@@ -2,5 +2,5 @@ use Rattle.std.proofs.Common.{arith}
 use Rattle.standard.proofs.Yields.{product_small}
 use Rattle.standard.proofs.contribution.at_standard.Goals as goal
 
-pub invariant-of-result : goal.invariant-of-result
-invariant-of-result c = (product_small _ _ (omega arith) (omega arith), tt)
+pub invariant_of-result : goal.invariant_of-result
+invariant_of-result c = (product_small _ _ (omega arith) (omega arith), tt)

@@ -10,5 +10,5 @@ returns-then-i-past c = ap (has_activity c.args.activity) (stands_none c.args.pa
 
 pub returns : goal.returns
 returns c =
-    let P : Option FilingFields → Type 0 = λ p. YearOf c.args.activity c.args.year p c.place-year.result in
-    subst P (stands_at c.args.past.now c.args.year _ c.requires c.if-year-lt-FIRST-YEAR.false c.if-i-past.false c.index-past-i.is) c.place-year.ensures
+    let P : Option FilingFields → Type 0 = λ p. YearOf c.args.activity c.args.year p c.place_year.result in
+    subst P (stands_at c.args.past.now c.args.year _ c.requires c.if-year-lt-FIRST_YEAR.false c.if-i-past.false c.index-past-i.is) c.place_year.ensures

@@ -2,5 +2,5 @@ use Rattle.std.proofs.Common.{arith}
 use Rattle.standard.proofs.Yields.{weighed_small}
 use Rattle.standard.proofs.gaseous.unit_yield.Goals as goal
 
-pub in-ten-millionths-requires : goal.in-ten-millionths-requires
-in-ten-millionths-requires c = record { positive = omega arith; few = omega arith; small = weighed_small _ _ _ (omega arith) (omega arith) }
+pub in_ten_millionths-requires : goal.in_ten_millionths-requires
+in_ten_millionths-requires c = record { positive = omega arith; few = omega arith; small = weighed_small _ _ _ (omega arith) (omega arith) }

@@ -5,4 +5,4 @@ use Rattle.standard.proofs.reference.reference_years.Goals as goal
 
 pub returns : goal.returns
 unfolding references
-returns c = c.chosen-years.ensures ∙ ap (λ ps. references (enrolled c.args.enrolment.now) ps c.args.activity) c.up-to.ensures.value
+returns c = c.chosen_years.ensures ∙ ap (λ ps. references (enrolled c.args.enrolment.now) ps c.args.activity) c.up_to.ensures.value

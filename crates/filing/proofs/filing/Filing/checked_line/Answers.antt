@@ -6,40 +6,40 @@ use Rattle.filing.proofs.Keeping.{count_is, opened, held}
 use Rattle.filing.proofs.Refusing.{refused_full, refused_kind, refused_range, refused_twice, refused_above, refused_none}
 use Rattle.filing.proofs.filing.Filing.checked_line.Goals as goal
 
-pub returns-then-self-ge-MOST-LINES : goal.returns-then-self-ge-MOST-LINES
-returns-then-self-ge-MOST-LINES c =
+pub returns-then-self-ge-MOST_LINES : goal.returns-then-self-ge-MOST_LINES
+returns-then-self-ge-MOST_LINES c =
     let s = c.args.self.now in
-    refused_full (fields_of s) c.args.fields s.count (count_is s) c.if-self-ge-MOST-LINES.true
+    refused_full (fields_of s) c.args.fields s.count (count_is s) c.if-self-ge-MOST_LINES.true
 
-pub returns-in-default : goal.returns-in-default
-returns-in-default c =
+pub returns-in_default : goal.returns-in_default
+returns-in_default c =
     let s = c.args.self.now in
-    refused_kind (fields_of s) c.args.fields s.count (count_is s) c.if-self-ge-MOST-LINES.false (sym c.in-default.ensures)
+    refused_kind (fields_of s) c.args.fields s.count (count_is s) c.if-self-ge-MOST_LINES.false (sym c.in_default.ensures)
 
-pub returns-in-err-line : goal.returns-in-err-line
-returns-in-err-line c =
+pub returns-in_err-line : goal.returns-in_err-line
+returns-in_err-line c =
     let s = c.args.self.now in
-    let o = opened s c.args.fields c.in-Some.kind c.if-self-ge-MOST-LINES.false (sym c.in-Some.ensures) in
-    let p = err_from_is_err_and c.from-residual.result c.from-residual.ensures.1 in
-    rw (p.1, p.2) (refused_range (fields_of s) c.args.fields s.count c.in-Some.kind _ o c.in-err-line.ensures)
+    let o = opened s c.args.fields c.in-Some.kind c.if-self-ge-MOST_LINES.false (sym c.in-Some.ensures) in
+    let p = err_from_is_err_and c.from_residual.result c.from_residual.ensures.1 in
+    rw (p.1, p.2) (refused_range (fields_of s) c.args.fields s.count c.in-Some.kind _ o c.in_err-line.ensures)
 
 pub returns-then-holds : goal.returns-then-holds
 returns-then-holds c =
     let s = c.args.self.now in
-    let o = opened s c.args.fields c.in-Some.kind c.if-self-ge-MOST-LINES.false (sym c.in-Some.ensures) in
+    let o = opened s c.args.fields c.in-Some.kind c.if-self-ge-MOST_LINES.false (sym c.in-Some.ensures) in
     let h = held s c.args.fields c.lines-earlier.result.now true c.lines-earlier.ensures.fields c.if-holds.ensures in
-    refused_twice (fields_of s) c.args.fields s.count c.in-Some.kind o c.in-ok-line.ensures.1 h
+    refused_twice (fields_of s) c.args.fields s.count c.in-Some.kind o c.in_ok-line.ensures.1 h
 
-pub returns-then-total-kg-attributed-kg : goal.returns-then-total-kg-attributed-kg
-returns-then-total-kg-attributed-kg c =
+pub returns-then-total_kg-attributed_kg : goal.returns-then-total_kg-attributed_kg
+returns-then-total_kg-attributed_kg c =
     let s = c.args.self.now in
-    let o = opened s c.args.fields c.in-Some.kind c.if-self-ge-MOST-LINES.false (sym c.in-Some.ensures) in
+    let o = opened s c.args.fields c.in-Some.kind c.if-self-ge-MOST_LINES.false (sym c.in-Some.ensures) in
     let h = held s c.args.fields c.lines-earlier.result.now false c.lines-earlier.ensures.fields c.if-holds.ensures in
-    refused_above (fields_of s) c.args.fields s.count c.in-Some.kind o c.in-ok-line.ensures.1 h (omega (arith, ap attributed_sum c.lines-earlier.ensures.fields, c.attributed-kg.ensures.value, c.total-kg.ensures.value, ap (λ l. l.attributed) c.in-ok-line.ensures.0))
+    refused_above (fields_of s) c.args.fields s.count c.in-Some.kind o c.in_ok-line.ensures.1 h (omega (arith, ap attributed_sum c.lines-earlier.ensures.fields, c.attributed_kg.ensures.value, c.total_kg.ensures.value, ap (λ l. l.attributed) c.in_ok-line.ensures.0))
 
 pub returns : goal.returns
 returns c =
     let s = c.args.self.now in
-    let o = opened s c.args.fields c.in-Some.kind c.if-self-ge-MOST-LINES.false (sym c.in-Some.ensures) in
+    let o = opened s c.args.fields c.in-Some.kind c.if-self-ge-MOST_LINES.false (sym c.in-Some.ensures) in
     let h = held s c.args.fields c.lines-earlier.result.now false c.lines-earlier.ensures.fields c.if-holds.ensures in
-    (c.in-ok-line.ensures.0, refused_none (fields_of s) c.args.fields s.count c.in-Some.kind o c.in-ok-line.ensures.1 h (omega (arith, ap attributed_sum c.lines-earlier.ensures.fields, c.attributed-kg.ensures.value, c.total-kg.ensures.value, ap (λ l. l.attributed) c.in-ok-line.ensures.0)))
+    (c.in_ok-line.ensures.0, refused_none (fields_of s) c.args.fields s.count c.in-Some.kind o c.in_ok-line.ensures.1 h (omega (arith, ap attributed_sum c.lines-earlier.ensures.fields, c.attributed_kg.ensures.value, c.total_kg.ensures.value, ap (λ l. l.attributed) c.in_ok-line.ensures.0)))

@@ -4,13 +4,13 @@ use Rattle.filing.proofs.Growing.{grown, accepted}
 use Rattle.filing.proofs.filing.Filing.with_line.Goals as goal
 
 pub bounds-lines-self : goal.bounds-lines-self
-bounds-lines-self c = (grown c.args.self.now c.in-ok-line.line c.args.fields c.in-ok-line.ensures).below
+bounds-lines-self c = (grown c.args.self.now c.in_ok-line.line c.args.fields c.in_ok-line.ensures).below
 
-pub invariant-of-result : goal.invariant-of-result
-invariant-of-result c =
+pub invariant_of-result : goal.invariant_of-result
+invariant_of-result c =
     let s = c.args.self.now in
-    let g = grown s c.in-ok-line.line c.args.fields c.in-ok-line.ensures in (
-      length-set s.lines s.count c.in-ok-line.line ∙ s.room,
+    let g = grown s c.in_ok-line.line c.args.fields c.in_ok-line.ensures in (
+      length-set s.lines s.count c.in_ok-line.line ∙ s.room,
       (
         omega (arith, g.below),
         (
@@ -30,4 +30,4 @@ invariant-of-result c =
     )
 
 pub returns : goal.returns
-returns c = accepted c.args.self.now c.in-ok-line.line c.args.fields c.in-ok-line.ensures
+returns c = accepted c.args.self.now c.in_ok-line.line c.args.fields c.in_ok-line.ensures

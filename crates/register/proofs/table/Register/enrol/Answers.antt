@@ -9,14 +9,14 @@ use Rattle.register.proofs.Options.{none_of}
 use Rattle.register.proofs.Starts.{enrol_holds}
 use Rattle.register.proofs.table.Register.enrol.Goals as goal
 
-pub returns-then-is-taken : goal.returns-then-is-taken
-returns-then-is-taken g c =
+pub returns-then-is_taken : goal.returns-then-is_taken
+returns-then-is_taken g c =
     let e = c.in-Ok.enrolment in
     record {
       lives = λ m cs L.
           enrolled_twice g.M.LimitMethod.meaning m c.args.self.now c.args.fields cs L e c.in-Ok.ensures.0 c.in-Ok.ensures.1
           (enrolled_as_read g.M.LimitMethod.meaning m c.args.self.now (accepted cs) L e.facility e.facility_range.0 e.facility_range.1 c.index-self-i.result _
-          (sym c.is-taken.ensures ∙ c.if-is-taken.true));
+          (sym c.is_taken.ensures ∙ c.if-is_taken.true));
       refused = refl;
     }
 
@@ -30,7 +30,7 @@ returns g c =
     let high : e.facility ≤ 4 = e.facility_range.1 in
     let four : length r.plants ≡ 4 = search rules in
     let within : e.facility - 1 < length r.plants = omega arith in
-    let gone = sym (ap (λ (d : Plant). is_some d.enrolment) (get_or_default r.plants i c.index-self-i.result p within)) ∙ sym c.is-taken.ensures ∙ c.if-is-taken.false in
+    let gone = sym (ap (λ (d : Plant). is_some d.enrolment) (get_or_default r.plants i c.index-self-i.result p within)) ∙ sym c.is_taken.ensures ∙ c.if-is_taken.false in
     record {
       lives = λ m cs L.
           enrolled_once g.M.LimitMethod.meaning m r c.args.fields cs L e c.in-Ok.ensures.0 c.in-Ok.ensures.1 _

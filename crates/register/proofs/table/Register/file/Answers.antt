@@ -6,25 +6,25 @@ use Rattle.register.proofs.Asking.{asked_unknown, asked_second, asked_acts, act_
 use Rattle.register.proofs.Deeds.{acted_refused}
 use Rattle.register.proofs.table.Register.file.Goals as goal
 
-pub returns-in-default : goal.returns-in-default
-returns-in-default g c =
+pub returns-in_default : goal.returns-in_default
+returns-in_default g c =
     let x = filed c.args.signed in
-    let f = c.facility-of-facility.result in
-    let y = c.year-of-year.result in
-    let f-is = c.facility-of-facility.ensures.value in
-    let y-is = c.year-of-year.ensures.value in
+    let f = c.facility_of-facility.result in
+    let y = c.year_of-year.result in
+    let f-is = c.facility_of-facility.ensures.value in
+    let y-is = c.year_of-year.ensures.value in
     record {
-      lives = λ m cs L. asked_unknown g.M.LimitMethod.meaning m c.args.self.now (file x) cs L f (stands (accepted cs) f y) (file_asks x f y f-is y-is (accepted cs)) c.in-default.ensures.1;
+      lives = λ m cs L. asked_unknown g.M.LimitMethod.meaning m c.args.self.now (file x) cs L f (stands (accepted cs) f y) (file_asks x f y f-is y-is (accepted cs)) c.in_default.ensures.1;
       refused = refl;
     }
 
-pub returns-then-is-some : goal.returns-then-is-some
-returns-then-is-some g c =
+pub returns-then-is_some : goal.returns-then-is_some
+returns-then-is_some g c =
     let x = filed c.args.signed in
-    let f = c.facility-of-facility.result in
-    let y = c.year-of-year.result in
-    let f-is = c.facility-of-facility.ensures.value in
-    let y-is = c.year-of-year.ensures.value in
+    let f = c.facility_of-facility.result in
+    let y = c.year_of-year.result in
+    let f-is = c.facility_of-facility.ensures.value in
+    let y-is = c.year_of-year.ensures.value in
     let e = c.in-Ok.place.enrolment in
     let p = c.in-Ok.place.filing in
     let placed = c.in-Ok.ensures in
@@ -32,25 +32,25 @@ returns-then-is-some g c =
       lives = λ m cs L.
           asked_second g.M.LimitMethod.meaning m c.args.self.now (file x) cs L f (stands (accepted cs) f y) (file_asks x f y f-is y-is (accepted cs))
           (placed_enrolled g.M.LimitMethod.meaning m c.args.self.now (accepted cs) L f y e p placed)
-          (stands_as_read g.M.LimitMethod.meaning m c.args.self.now (accepted cs) L f y e p placed _ (sym c.if-is-some.true ∙ c.is-some.ensures));
+          (stands_as_read g.M.LimitMethod.meaning m c.args.self.now (accepted cs) L f y e p placed _ (sym c.if-is_some.true ∙ c.is_some.ensures));
       refused = refl;
     }
 
 pub returns : goal.returns
 returns g c =
     let x = filed c.args.signed in
-    let f = c.facility-of-facility.result in
-    let y = c.year-of-year.result in
-    let f-is = c.facility-of-facility.ensures.value in
-    let y-is = c.year-of-year.ensures.value in
+    let f = c.facility_of-facility.result in
+    let y = c.year_of-year.result in
+    let f-is = c.facility_of-facility.ensures.value in
+    let y-is = c.year_of-year.ensures.value in
     let e = c.in-Ok.place.enrolment in
     let p = c.in-Ok.place.filing in
     let placed = c.in-Ok.ensures in
     record {
       lives = λ m cs L.
           asked_acts g.M.LimitMethod.meaning g.met.M.LimitMethod.later m c.args.self.now c.act.new.self (file x) cs L (act_of x f y f-is y-is) (filing_does x f y f-is y-is) refl
-          (stands (accepted cs) f y) (file_asks x f y f-is y-is (accepted cs)) e p (Some c.args.signed) placed c.year-of-year.ensures.range.0 c.year-of-year.ensures.range.1
-          (stands_as_read g.M.LimitMethod.meaning m c.args.self.now (accepted cs) L f y e p placed _ (sym c.if-is-some.false ∙ c.is-some.ensures))
+          (stands (accepted cs) f y) (file_asks x f y f-is y-is (accepted cs)) e p (Some c.args.signed) placed c.year_of-year.ensures.range.0 c.year_of-year.ensures.range.1
+          (stands_as_read g.M.LimitMethod.meaning m c.args.self.now (accepted cs) L f y e p placed _ (sym c.if-is_some.false ∙ c.is_some.ensures))
           refl c.act.result c.act.ensures;
       refused = acted_refused g.M.LimitMethod.meaning c.args.self.now c.act.new.self f y e p (Some c.args.signed) c.act.result c.act.ensures;
     }

@@ -14,12 +14,12 @@ returns-then-facility-lt1 g c =
       answers = λ m cs L. look_unknown g.M.LimitMethod.meaning m c.args.self.now cs L f c.args.year (ap is_some (L.no-others f out));
     }
 
-pub returns-then-is-none : goal.returns-then-is-none
-returns-then-is-none g c =
+pub returns-then-is_none : goal.returns-then-is_none
+returns-then-is_none g c =
     let f = c.args.facility in
     let four : length c.args.self.now.plants ≡ 4 = search rules in
     let p = c.index-plants-facility.result in
-    let gone = c.is-none.ensures ∙ ap not c.if-is-none.true in
+    let gone = c.is_none.ensures ∙ ap not c.if-is_none.true in
     record {
       shows = shown_absent c.args.self.now f c.args.year c.if-facility-lt1.false c.if-facility-gt-FACILITIES.false four p gone;
       answers = λ m cs L.
@@ -32,10 +32,10 @@ returns-in-Some g c =
     let f = c.args.facility in
     let four : length c.args.self.now.plants ≡ 4 = search rules in
     let p = c.index-plants-facility.result in
-    let there = c.is-none.ensures ∙ ap not c.if-is-none.false in
+    let there = c.is_none.ensures ∙ ap not c.if-is_none.false in
     let shows =
     shown_enrolled c.args.self.now f c.args.year c.if-facility-lt1.false c.if-facility-gt-FACILITIES.false four p there
-    ∙ ap (option_map assessment_fields) (sym c.assessed-at.ensures ∙ c.in-Some.is)
+    ∙ ap (option_map assessment_fields) (sym c.assessed_at.ensures ∙ c.in-Some.is)
     in
     record {
       shows = shows;
@@ -50,10 +50,10 @@ returns-in-None g c =
     let f = c.args.facility in
     let four : length c.args.self.now.plants ≡ 4 = search rules in
     let p = c.index-plants-facility.result in
-    let there = c.is-none.ensures ∙ ap not c.if-is-none.false in
+    let there = c.is_none.ensures ∙ ap not c.if-is_none.false in
     let shows =
     shown_enrolled c.args.self.now f c.args.year c.if-facility-lt1.false c.if-facility-gt-FACILITIES.false four p there
-    ∙ ap (option_map assessment_fields) (sym c.assessed-at.ensures ∙ c.in-None.is)
+    ∙ ap (option_map assessment_fields) (sym c.assessed_at.ensures ∙ c.in-None.is)
     in
     record {
       shows = shows;

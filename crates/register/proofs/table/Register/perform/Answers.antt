@@ -45,10 +45,10 @@ returns-in-Withdraw g c =
 pub returns-in-TakeBack : goal.returns-in-TakeBack
 returns-in-TakeBack g c =
     let r = c.args.self.now in
-    let s = c.take-back.new.self in
+    let s = c.take_back.new.self in
     record {
-      laws = performed g.M.LimitMethod.meaning r s _ _ (ap call_fields c.in-TakeBack.is) c.numbered-in-TakeBack.result _ (ap answered c.numbered-in-TakeBack.ensures ∙ number_same c.take-back.result) c.take-back.ensures.lives;
-      refused = subst (λ a. KeptIf g.M.LimitMethod.meaning a r s) (sym c.numbered-in-TakeBack.ensures) (number_kept g.M.LimitMethod.meaning r s c.take-back.result c.take-back.ensures.refused);
+      laws = performed g.M.LimitMethod.meaning r s _ _ (ap call_fields c.in-TakeBack.is) c.numbered-in-TakeBack.result _ (ap answered c.numbered-in-TakeBack.ensures ∙ number_same c.take_back.result) c.take_back.ensures.lives;
+      refused = subst (λ a. KeptIf g.M.LimitMethod.meaning a r s) (sym c.numbered-in-TakeBack.ensures) (number_kept g.M.LimitMethod.meaning r s c.take_back.result c.take_back.ensures.refused);
     }
 
 pub returns-in-Close : goal.returns-in-Close
@@ -63,7 +63,7 @@ returns-in-LookUp g c =
     let r = c.args.self.now in
     record {
       laws =
-          performed g.M.LimitMethod.meaning r r _ _ (ap call_fields c.in-LookUp.is) c.assessed.result _ (ap answered c.assessed.ensures ∙ look_same c.look-up.result)
-          (look_lives g.M.LimitMethod.meaning r _ _ _ c.look-up.ensures.answers);
-      refused = subst (λ a. KeptIf g.M.LimitMethod.meaning a r r) (sym c.assessed.ensures) (look_kept g.M.LimitMethod.meaning r r c.look-up.result refl);
+          performed g.M.LimitMethod.meaning r r _ _ (ap call_fields c.in-LookUp.is) c.assessed.result _ (ap answered c.assessed.ensures ∙ look_same c.look_up.result)
+          (look_lives g.M.LimitMethod.meaning r _ _ _ c.look_up.ensures.answers);
+      refused = subst (λ a. KeptIf g.M.LimitMethod.meaning a r r) (sym c.assessed.ensures) (look_kept g.M.LimitMethod.meaning r r c.look_up.result refl);
     }

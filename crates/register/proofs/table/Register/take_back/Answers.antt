@@ -7,8 +7,8 @@ use Rattle.register.proofs.Backs.{taken_unrefused, taken_known, taken_holds}
 use Rattle.register.proofs.Keeping.{accepted_lives}
 use Rattle.register.proofs.table.Register.take_back.Goals as goal
 
-pub returns-in-default : goal.returns-in-default
-returns-in-default g c =
+pub returns-in_default : goal.returns-in_default
+returns-in_default g c =
     let r = c.args.self.now in
     let v = r.log.entries in
     let entry = c.latest-entry.result in
@@ -19,7 +19,7 @@ returns-in-default g c =
           let d = plant_at g.M.LimitMethod.meaning m r (accepted cs) L entry.facility in
           absurd
           (taken_known g.M.LimitMethod.meaning m r (accepted cs) L full entry (take (vec_len v - 1) (vec_items v)) c.latest-entry.ensures d read
-          (c.in-default.ensures d read));
+          (c.in_default.ensures d read));
       refused = refl;
     }
 
@@ -35,7 +35,7 @@ returns g c =
       lives = λ m cs L.
           let read = plant_read g.M.LimitMethod.meaning m r (accepted cs) L entry.facility entry.facility_range.0 entry.facility_range.1 in
           let d = plant_at g.M.LimitMethod.meaning m r (accepted cs) L entry.facility in
-          let none = taken_unrefused g.M.LimitMethod.meaning m r (accepted cs) L full c.if-self-ge-LAST-NUMBER.false in
+          let none = taken_unrefused g.M.LimitMethod.meaning m r (accepted cs) L full c.if-self-ge-LAST_NUMBER.false in
           let taken =
           taken_holds g.M.LimitMethod.meaning m r (accepted cs) L full entry (take (vec_len v - 1) (vec_items v)) c.latest-entry.ensures g.met.M.LimitMethod.later c.put.new.self items len d read
           c.in-Some.enrolment (c.in-Some.ensures d read) c.put.result c.put.ensures.number c.put.ensures.used c.put.ensures.method c.put.ensures.refit
