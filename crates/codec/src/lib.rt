@@ -1,4 +1,6 @@
 //! Records of filings: read from bytes and written to bytes.
+#![tactic(auto)]
+
 pub mod faults;
 mod fields;
 mod parts;

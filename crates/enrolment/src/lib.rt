@@ -1,4 +1,6 @@
 //! Enrolments: which facilities take part, and from which year on they have limits.
+#![tactic(auto)]
+
 mod calendar;
 pub mod enrolment;
 pub mod faults;

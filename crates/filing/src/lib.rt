@@ -1,4 +1,6 @@
 //! Filings: what a facility reports for a year, drawn up as a draft and then signed.
+#![tactic(auto)]
+
 mod building;
 pub mod draft;
 pub mod faults;

@@ -1,3 +1,5 @@
 //! Histories of calls on a register, each with what its calls are answered.
+#![tactic(auto)]
+
 #[cfg(test)]
 mod tests;

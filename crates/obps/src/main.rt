@@ -1,4 +1,6 @@
 //! The program: its commands, its files, and what it prints.
+#![tactic(auto)]
+
 mod answers;
 mod failures;
 mod help;

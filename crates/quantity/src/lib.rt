@@ -1,4 +1,6 @@
 //! Quantities with their ranges, and how they are rounded.
+#![tactic(auto)]
+
 pub mod rounding;
 #[cfg(test)]
 mod tests;

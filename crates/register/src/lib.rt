@@ -1,4 +1,6 @@
 //! The register of yearly filings: its calls, and three laws for every history of them.
+#![tactic(auto)]
+
 mod acts;
 pub mod answers;
 mod assess;

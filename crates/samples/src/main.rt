@@ -1,6 +1,8 @@
 //! The sample files of records, made anew and compared with the files that are shipped.
 //!
 //! `samples make` writes the files; without a word it compares them and prints what their records say.
+#![tactic(auto)]
+
 mod making;
 #[cfg(test)]
 mod tests;

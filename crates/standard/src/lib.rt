@@ -1,4 +1,6 @@
 //! Standards: what a line of a filing contributes to the year's limit.
+#![tactic(auto)]
+
 pub mod base;
 pub mod calculated;
 pub mod calculation;

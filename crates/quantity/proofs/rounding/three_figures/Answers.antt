@@ -12,7 +12,7 @@ overflow_mul-unit c =
 pub invariant_of-figure : goal.invariant_of-figure
 invariant_of-figure c =
     let unit = unit_is _ _ _ (omega arith) (omega arith) c.unit_of-unit.ensures in
-    (omega arith, (omega arith, tt))
+    record { small = omega arith; divides = omega arith }
 
 is : (c : goal.After-figure-figures) → c.figure-figures.result * c.unit_of-unit.result ≡ three_figures c.args.q.num c.args.q.den
 unfolding three_figures

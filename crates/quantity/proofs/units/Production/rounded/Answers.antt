@@ -3,7 +3,7 @@ use Rattle.quantity.proofs.ThreeFigures.{figures_within, figures_whole}
 use Rattle.quantity.proofs.units.Production.rounded.Goals as goal
 
 pub invariant_of-result : goal.invariant_of-result
-invariant_of-result c = (figures_within _ _ _ 11 (omega arith) c.three_figures.ensures.meets, tt)
+invariant_of-result c = record { range = figures_within _ _ _ 11 (omega arith) c.three_figures.ensures.meets }
 
 pub returns : goal.returns
 returns c =
