@@ -9,25 +9,15 @@ bounds-lines-self c = (grown c.args.self.now c.in_ok-line.line c.args.fields c.i
 pub invariant_of-result : goal.invariant_of-result
 invariant_of-result c =
     let s = c.args.self.now in
-    let g = grown s c.in_ok-line.line c.args.fields c.in_ok-line.ensures in (
-      length-set s.lines s.count c.in_ok-line.line ∙ s.room,
-      (
-        omega (arith, g.below),
-        (
-          s.head_in_range,
-          (
-            g.in_range,
-            (
-              g.apart,
-              (
-                g.within,
-                tt,
-              ),
-            ),
-          ),
-        ),
-      ),
-    )
+    let g = grown s c.in_ok-line.line c.args.fields c.in_ok-line.ensures in
+    record {
+      room = length-set s.lines s.count c.in_ok-line.line ∙ s.room;
+      few = omega (arith, g.below);
+      head_in_range = s.head_in_range;
+      lines_in_range = g.in_range;
+      lines_apart = g.apart;
+      within = g.within;
+    }
 
 pub returns : goal.returns
 returns c = accepted c.args.self.now c.in_ok-line.line c.args.fields c.in_ok-line.ensures
