@@ -61,14 +61,14 @@ matching_line : (o : Option ℕ) (n : ℕ) → matching o ≡ Err (refusal 4 ((l
 matching_line None n h = absurd (ok_err h)
 matching_line (Some m) n h = ap (λ (t : Told). Some (first_value t.values)) (err_inj h)
 
-first_off : (m n : ℕ) (ss rs : List ℕ) → first_off m ss rs ≡ Some n → OffAt m n ss rs
-first_off m n [] [] h = absurd (none_some h)
-first_off m n [] (r ∷ rs) h = off_here m n [] (r ∷ rs) (some_inj h) none_some
-first_off m n (s ∷ ss) [] h = off_here m n (s ∷ ss) [] (some_inj h) some_none
-first_off m n (s ∷ ss) (r ∷ rs) h =
+first_off_at : (m n : ℕ) (ss rs : List ℕ) → first_off m ss rs ≡ Some n → OffAt m n ss rs
+first_off_at m n [] [] h = absurd (none_some h)
+first_off_at m n [] (r ∷ rs) h = off_here m n [] (r ∷ rs) (some_inj h) none_some
+first_off_at m n (s ∷ ss) [] h = off_here m n (s ∷ ss) [] (some_inj h) some_none
+first_off_at m n (s ∷ ss) (r ∷ rs) h =
     elim (cases_Bool (eqb s r)) [
       | inl b ↦
-          let p = first_off (m + 1) n ss rs (sym (cond-true (eqb s r) (first_off (m + 1) ss rs) (Some m) b) ∙ h) in
+          let p = first_off_at (m + 1) n ss rs (sym (cond-true (eqb s r) (first_off (m + 1) ss rs) (Some m) b) ∙ h) in
           let e : s ≡ r = eqb-true s r b in
           let c : m + 1 ≤ n = p.counted in
           let z : n - m ≡ suc (n - (m + 1)) = omega arith in
@@ -87,7 +87,7 @@ schema_differs bs row n h =
     let a = then_four (part 5 1 bs) _ t (never_part 5 1 bs) refl h in
     let b = then_four (part 6 (get_or a.0 0 0) bs) _ t (never_part 6 (get_or a.0 0 0) bs) refl a.2 in
     let s = schema_of bs a.0 b.0 a.1 b.1 in
-    (s.0, first_off 1 n (schema_in bs) row (ap (λ codes. first_off 1 codes row) (sym s.1) ∙ matching_line (first_off 1 b.0 row) n b.2))
+    (s.0, first_off_at 1 n (schema_in bs) row (ap (λ codes. first_off 1 codes row) (sym s.1) ∙ matching_line (first_off 1 b.0 row) n b.2))
 
 opening_version : (bs : List ℕ) (v : ℕ) → opening bs ≡ Ok v → version_in bs ≡ v
 opening_version bs v h =
@@ -117,7 +117,7 @@ differs bs n h =
 pub matches : (bs : List ℕ) (x : ℕ × ℕ × FilingFields) → reading bs ≡ Ok x → Matches bs x.1
 matches bs x h =
     let a = accepted bs x h in
-    let s = schema_of bs a.count a.codes a.count-is a.codes_is in
+    let s = schema_of bs a.count a.codes a.count_is a.codes_is in
     record {
       version = sym (version_of bs a.version a.version_is) ∙ a.version_good;
       row = a.row;

@@ -89,7 +89,7 @@ module _ (bs cs : List ℕ) (x : ℕ × ℕ × FilingFields) (agrees : Agrees x.
 
   schema_up : schema row cs ≡ up_to w (6 + get_or a.count 0 0) tt
   schema_up =
-      then_up w 6 (6 + get_or a.count 0 0) a.count _ _ _ (part_up x.0 5 1 bs cs a.count agrees (omega (arith, ends)) a.count-is) (omega arith) (λ _.
+      then_up w 6 (6 + get_or a.count 0 0) a.count _ _ _ (part_up x.0 5 1 bs cs a.count agrees (omega (arith, ends)) a.count_is) (omega arith) (λ _.
       then_up w (6 + get_or a.count 0 0) (6 + get_or a.count 0 0) a.codes _ _ _ (part_up x.0 6 (get_or a.count 0 0) bs cs a.codes agrees (omega (arith, ends, schema_ends)) a.codes_is) (omega arith) (λ there.
       a.codes_good ∙ sym (up_there w (6 + get_or a.count 0 0) tt there)))
 

@@ -119,7 +119,7 @@ module _ (bs : List ℕ) (x : ℕ × ℕ × FilingFields) (s : Small bs) (a : Ac
       ∙ ap (bytes_of 2) (a.version_good ∙ v)
 
   count_is : a.count ≡ length a.row ∷ []
-  count_is = one_back a.count (part_length 5 1 bs a.count a.count-is) ∙ ap (λ n. n ∷ []) (schema_row bs x a).1
+  count_is = one_back a.count (part_length 5 1 bs a.count a.count_is) ∙ ap (λ n. n ∷ []) (schema_row bs x a).1
 
   opening_is : take 20 bs ≡ opening_bytes written_version written_row
   opening_is =
@@ -127,7 +127,7 @@ module _ (bs : List ℕ) (x : ℕ × ℕ × FilingFields) (s : Small bs) (a : Ac
       ∙ ap (λ n. take (6 + n) bs) (sym (schema_row bs x a).1)
       ∙ front 6 (get_or a.count 0 0) bs a.codes a.codes_is
       ∙ ap (λ t. take 6 bs ++ t) (schema_row bs x a).0
-      ∙ ap (λ t. t ++ a.row) (front 5 1 bs a.count a.count-is ∙ ap (λ t. take 5 bs ++ t) count_is)
+      ∙ ap (λ t. t ++ a.row) (front 5 1 bs a.count a.count_is ∙ ap (λ t. take 5 bs ++ t) count_is)
       ∙ ap (λ t. (t ++ (length a.row ∷ [])) ++ a.row) (front 3 2 bs a.version a.version_is ∙ ap (λ t. take 3 bs ++ t) version_is)
       ∙ ap (λ t. ((t ++ bytes_of 2 written_version) ++ (length a.row ∷ [])) ++ a.row) (front 0 3 bs a.mark a.mark_is ∙ mark_back a.mark (part_length 0 3 bs a.mark a.mark_is) a.mark_good)
       ∙ ap (opening_bytes written_version) row_is

@@ -13,15 +13,15 @@ use Rattle.codec.proofs.Pasting.{length_record, record_parts, same_record}
 use Rattle.codec.proofs.ReadBack.{read_back}
 use Rattle.codec.proofs.writer.write.Goals as goal
 
-pub returns-then-buffer_size : goal.returns-then-buffer_size
-returns-then-buffer_size c =
+pub returns-then-buffer-size : goal.returns-then-buffer-size
+returns-then-buffer-size c =
     let f = filed c.args.filing.now in
     let sound : Sound f = subst (λ (g : Filing). Sound (fields_of g)) c.filing-report.ensures.is c.filing-report.ensures.sound in
     let n = c.heads-heads.result in
-    let row = c.written_row.result.codes.now in
-    let v = c.written_row.result.version in
+    let row = c.written-row.result.codes.now in
+    let v = c.written-row.result.version in
     let g = fields_of c.filing-report.result.now in
-    let s = same_record v row c.written_row.ensures.version c.written_row.ensures.codes (ap fields_of c.filing-report.ensures.is) in
+    let s = same_record v row c.written-row.ensures.version c.written-row.ensures.codes (ap fields_of c.filing-report.ensures.is) in
     let size : 6 + length row + 8 * n + 1 + 8 * (length row - n) * c.count.result ≡ length (written (filed c.args.filing.now)) =
     ap (λ k. 6 + length row + 8 * n + 1 + 8 * (length row - n) * k) c.count.ensures ∙ length_record v row g n c.heads-heads.ensures.counts c.heads-heads.ensures.within ∙ ap length s in
     record { says = (omega arith, refl); back = λ rest. read_back f rest sound }
@@ -29,23 +29,23 @@ returns-then-buffer_size c =
 pub put_lines-requires : goal.put_lines-requires
 put_lines-requires c =
     let n = c.heads-heads.result in
-    let row = c.written_row.result.codes.now in
+    let row = c.written-row.result.codes.now in
     let part : length (take (length row - n) (drop n row)) ≡ length row - n = ap length (take_rest row n) ∙ length-drop n row in
     let many : length c.lines.result.now ≡ c.count.result = sym (length-map c.lines.result.now line_fields) ∙ ap length c.lines.ensures.fields ∙ sym c.count.ensures in
     let size : 8 * length (take (length row - n) (drop n row)) * length c.lines.result.now ≡ 8 * (length row - n) * c.count.result =
     ap (λ x. 8 * x * length c.lines.result.now) part ∙ ap (λ x. 8 * (length row - n) * x) many in
-    record { few = omega (arith, ap length c.written_row.ensures.codes); room = omega arith }
+    record { few = omega (arith, ap length c.written-row.ensures.codes); room = omega arith }
 
 pub returns : goal.returns
 returns c =
     let f = filed c.args.filing.now in
     let sound : Sound f = subst (λ (g : Filing). Sound (fields_of g)) c.filing-report.ensures.is c.filing-report.ensures.sound in
     let n = c.heads-heads.result in
-    let row = c.written_row.result.codes.now in
-    let v = c.written_row.result.version in
+    let row = c.written-row.result.codes.now in
+    let v = c.written-row.result.version in
     let g = fields_of c.filing-report.result.now in
     let old = c.args.buffer.now in
-    let s = same_record v row c.written_row.ensures.version c.written_row.ensures.codes (ap fields_of c.filing-report.ensures.is) in
+    let s = same_record v row c.written-row.ensures.version c.written-row.ensures.codes (ap fields_of c.filing-report.ensures.is) in
     let count : 6 + length row + 8 * n + 1 + 8 * (length row - n) * c.count.result ≡ 6 + length row + 8 * n + 1 + 8 * (length row - n) * length g.lines =
     ap (λ k. 6 + length row + 8 * n + 1 + 8 * (length row - n) * k) c.count.ensures in
     let size = length_record v row g n c.heads-heads.ensures.counts c.heads-heads.ensures.within in
