@@ -18,7 +18,6 @@ use Rattle.filing.specs.declared.kinds.LineKind.{LineKind}
 use Rattle.filing.specs.declared.kinds.LineKind.TheVariants.{Numerical, Calculated, Gaseous}
 use Rattle.filing.proofs.Refusing.{refused_none}
 use Rattle.codec.specs.Fields.{head_of, line_of, head_field}
-use Rattle.codec.specs.Numbers.{number}
 use Rattle.codec.specs.Reading.{part, opening, schema, headed, counted, lined, body, reading}
 use Rattle.codec.specs.Table.{head_codes, line_codes, written_version, written_row}
 use Rattle.codec.specs.Writing.{field_bytes, line_bytes, opening_bytes, written}

@@ -1,5 +1,5 @@
 -- What follows from what every filing keeps.
-use Rattle.std.proofs.Common.{◌≡◌, ◌<◌, ◌≤◌, Bool, List, map, length, Some, sym, ap, ◌∙◌, arith}
+use Rattle.std.proofs.Common.{◌≡◌, ◌<◌, Bool, List, map, length, Some, sym, ap, ◌∙◌, arith}
 use Rattle.filing.specs.Checks.{most_lines}
 use Rattle.filing.specs.Filing.{among}
 use Rattle.filing.specs.Kinds.{kind_of}

@@ -1,11 +1,11 @@
 -- Which check of a new line refuses it, and that none does.
-use Rattle.std.proofs.Common.{◌≡◌, ℕ, ◌+◌, ◌<◌, ◌≤◌, Bool, true, false, ltb, leb, List, [], ◌∷◌, length, Some, None, Option, ◌∙◌}
+use Rattle.std.proofs.Common.{◌≡◌, ℕ, ◌+◌, ◌<◌, ◌≤◌, true, false, leb, [], ◌∷◌, length, Some, None, ◌∙◌}
 use Rattle.std.proofs.lemmas.Bool.{le-leb, lt-leb, lt-ltb, le-ltb}
-use Rattle.filing.specs.Checks.{most_lines, first, refused_if, out_of_range, no_kind, outside_of_kind, above_total, line_refusal}
+use Rattle.filing.specs.Checks.{most_lines, first, refused_if, out_of_range, above_total, line_refusal}
 use Rattle.filing.specs.Emissions.{total}
 use Rattle.filing.specs.Filing.{FilingFields, line_outside, among, attributed_sum}
 use Rattle.filing.specs.Kinds.{kind_of}
-use Rattle.filing.specs.Told.{Told, refusal, code, line}
+use Rattle.filing.specs.Told.{Told, refusal, line}
 use Rattle.filing.specs.declared.fields.LineFields.{LineFields}
 use Rattle.filing.specs.declared.kinds.LineKind.{LineKind}
 

@@ -1,5 +1,5 @@
 -- A filing as plain numbers, and what every filing keeps.
-use Rattle.std.specs.Prelude.{ℕ, ◌+◌, Bool, true, false, not, ◌&&◌, ◌||◌, List, [], ◌∷◌, is_some, Some, None, sum_by, Option, ◌==◌}
+use Rattle.std.specs.Prelude.{ℕ, Bool, true, false, not, ◌&&◌, ◌||◌, List, [], ◌∷◌, is_some, Some, None, sum_by, Option, ◌==◌}
 use Rattle.filing.specs.Kinds.{kind_of}
 use Rattle.filing.specs.Ranges.{head_numbers, head_ranges, line_numbers, line_ranges, first_outside}
 use Rattle.filing.specs.declared.fields.HeadFields.{HeadFields}

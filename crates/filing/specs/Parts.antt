@@ -1,5 +1,5 @@
 -- The plain numbers of a head and of lines that are kept.
-use Rattle.std.specs.Prelude.{◌≡◌, ℕ, true, List, map, take, Some, None, Ok, Err, Result}
+use Rattle.std.specs.Prelude.{◌≡◌, ℕ, List, map, take, Some, None, Ok, Err, Result}
 use Rattle.filing.specs.Checks.{out_of_range}
 use Rattle.filing.specs.Filing.{head_outside, line_outside}
 use Rattle.filing.specs.Kinds.{kind_number}

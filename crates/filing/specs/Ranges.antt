@@ -1,5 +1,5 @@
 -- The fields of a head and of a line with their ranges, in the order of the codes.
-use Rattle.std.specs.Prelude.{ℕ, ◌+◌, Bool, cond, not, ◌||◌, List, [], ◌∷◌, is_some, Some, None, Option, nat_lt}
+use Rattle.std.specs.Prelude.{ℕ, ◌+◌, Bool, cond, ◌||◌, List, [], ◌∷◌, Some, None, Option, nat_lt}
 use Rattle.filing.specs.declared.fields.HeadFields.{HeadFields}
 use Rattle.filing.specs.declared.fields.LineFields.{LineFields}
 use Rattle.filing.specs.declared.kinds.LineKind.{LineKind}

@@ -1,6 +1,6 @@
-use Rattle.std.proofs.Common.{◌≡◌, ◌+◌, ◌<◌, ◌≤◌, length, sym, ◌∙◌, arith}
+use Rattle.std.proofs.Common.{◌+◌, ◌<◌, length, sym, ◌∙◌, arith}
 use Rattle.std.proofs.lemmas.Bool.Decides.{nat_tests}
-use Rattle.filing.specs.Ranges.{◌to◌, first_outside}
+use Rattle.filing.specs.Ranges.{◌to◌}
 use Rattle.filing.proofs.Outside.{outside_more, outside_all}
 use Rattle.filing.proofs.ranges.first_outside.Goals as goal
 use Rattle.filing.proofs.ranges.first_outside.Goals.{then-values-i-via-then-values-i, then-values-i-via-else-values-i+then-range-values}
