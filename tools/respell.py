@@ -1,7 +1,8 @@
 #!/usr/bin/env python3
 """Brings the repository's own definitions and lemmas to snake case: run once, at the top, right after port.py.
 
-A definition of specs/ or proofs/ is respelled where it is named with hyphens or with humps (mostLines becomes most_lines).
+A definition of specs/ or proofs/, or a name that an import gives, is respelled where it is named with hyphens or with
+humps (mostLines becomes most_lines).
 Names that the check gives out (goals, hypotheses, invariants) and names of the libraries stay, and so do types and modules.
   respell.py          respells
   respell.py --list   prints the old and the new names and changes nothing
@@ -18,6 +19,7 @@ APART = {
 
 WORD = re.compile(r"(?<![\w'·-])[^\W\d][\w']*(?:-[\w']+)*", re.U)
 HEAD = re.compile(r"^(?:(?:abbrev|unfoldable|opaque|pub|private) )*(?!use\b|mod\b|record\b|data\b)([^\W\d][\w'-]*)\s*(?:[:({])")
+ALIAS = re.compile(r"[\w◌'-]+ as ([a-z]+[A-Z]\w*)")
 INNER = re.compile(r"^\s+(?:(?:abbrev|unfoldable|opaque|pub|private) )*([^\W\d][\w'-]*) : ")
 IMPORT = re.compile(r'use (Rattle\.(std|core|logic|native)[\w.\-]*|[a-z]\w*\.[\w.\-]+)\.\{([^}]*)\}')
 
@@ -40,6 +42,10 @@ def sources():
 
 def main():
     own, given, library, fields = {}, set(), set(), set()
+    for path in [*sources(), *Path('crates').rglob('src/*.rt')]:
+        for line in path.read_text().splitlines():
+            if 'use ' in line:
+                for alias in ALIAS.findall(line): own.setdefault(alias, set()).add(str(path))
     for path in sources():
         text = path.read_text()
         record = False

@@ -1,6 +1,6 @@
 -- What each refusal of a record tells: its number, and named values.
 use Rattle.std.specs.Prelude.{ℕ, List, [], ◌∷◌, codes}
-use Rattle.filing.specs.Told.{Told, refusal, printing, line, bytes, told as filingTold, word as filingWord}
+use Rattle.filing.specs.Told.{Told, refusal, printing, line, bytes, told as filing_told, word as filing_word}
 use Rattle.codec.specs.declared.faults.ReadFault.{ReadFault}
 use Rattle.codec.specs.declared.faults.ReadFault.TheVariants.{Cut, Mark, Version, Schema, Filing}
 
@@ -14,7 +14,7 @@ told (Cut n) = cut n
 told Mark = refusal 2 []
 told Version = refusal 3 []
 told (Schema n) = refusal 4 ((line, n) ∷ [])
-told (Filing e) = filingTold e
+told (Filing e) = filing_told e
 
 -- the word that goes with the number
 abbrev pub word : ReadFault → List ℕ
@@ -22,7 +22,7 @@ word (Cut n) = codes "cut"
 word Mark = codes "mark"
 word Version = codes "version"
 word (Schema n) = codes "schema"
-word (Filing e) = filingWord e
+word (Filing e) = filing_word e
 
 abbrev pub printed : ReadFault → List ℕ
 printed f = printing (word f) (told f)

@@ -1,7 +1,7 @@
 //! Why a record is not read, and why one is not written.
 ghost use Rattle.std.specs.Prelude.{◌≡◌, Some};
-ghost use Rattle.codec.specs.ReadFaults.{told as readTold, printed as readPrinted};
-ghost use Rattle.codec.specs.WriteFaults.{told as writeTold, printed as writePrinted};
+ghost use Rattle.codec.specs.ReadFaults.{told as read_told, printed as read_printed};
+ghost use Rattle.codec.specs.WriteFaults.{told as write_told, printed as write_printed};
 ghost use Rattle.codec.specs.declared.faults.ReadFault.TheVariants.{Filing};
 
 use filing::faults::FilingFault;
@@ -40,7 +40,7 @@ impl From<FilingFault> for ReadFault {
 impl ReadFault {
     /// The number by which the refusal goes.
     pub fn number(&self) -> u64
-        ensures { result ≡ (readTold self.now).number }
+        ensures { result ≡ (read_told self.now).number }
     {
         match self {
             ReadFault::Cut { .. } => 1,
@@ -55,7 +55,7 @@ impl ReadFault {
 impl WriteFault {
     /// The number by which the refusal goes.
     pub fn number(&self) -> u64
-        ensures { result ≡ (writeTold self.now).number }
+        ensures { result ≡ (write_told self.now).number }
     {
         match self {
             WriteFault::Short => 10,
@@ -65,7 +65,7 @@ impl WriteFault {
 
 /// The number, the word and the values by name, as `4 schema line 6`.
 impl fmt::Display for ReadFault {
-    ghost output = { λ f. Some (readPrinted f) };
+    ghost output = { λ f. Some (read_printed f) };
 
     fn fmt<W: fmt::Write>(&self, f: &mut fmt::Formatter<W>) -> fmt::Result {
         match self {
@@ -80,7 +80,7 @@ impl fmt::Display for ReadFault {
 
 /// The number and the word: `10 short`.
 impl fmt::Display for WriteFault {
-    ghost output = { λ f. Some (writePrinted f) };
+    ghost output = { λ f. Some (write_printed f) };
 
     fn fmt<W: fmt::Write>(&self, f: &mut fmt::Formatter<W>) -> fmt::Result {
         match self {

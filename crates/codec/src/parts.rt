@@ -1,7 +1,7 @@
 //! The parts of a record that stand before its head.
 ghost use Rattle.std.specs.Prelude.{◌≡◌, ℕ, ◌+◌, ◌≤◌, length, IfOk};
 ghost use Rattle.codec.specs.Answers.{Says};
-ghost use Rattle.codec.specs.Reading.{part as part_of, opening as openingOf, schema as schemaOf};
+ghost use Rattle.codec.specs.Reading.{part as part_of, opening as opening_of, schema as schema_of};
 
 use crate::faults::ReadFault;
 use crate::table::first_off;
@@ -29,7 +29,7 @@ pub(crate) fn part(bytes: &[u8], at: usize, size: usize) -> Result<&[u8], ReadFa
 
 /// The version, once the mark is seen.
 pub(crate) fn opening(bytes: &[u8]) -> Result<u16, ReadFault>
-    ensures { Says (λ v. v) result (openingOf bytes.now) }
+    ensures { Says (λ v. v) result (opening_of bytes.now) }
 {
     let length = bytes.len();
     let [0x4F, 0x42, 0x46, rest @ ..] = bytes else {
@@ -46,7 +46,7 @@ pub(crate) fn opening(bytes: &[u8]) -> Result<u16, ReadFault>
 
 /// Compares the schema with the row of the version.
 pub(crate) fn schema(row: &[u8], bytes: &[u8]) -> Result<(), ReadFault>
-    ensures { Says (λ x. x) result (schemaOf row.now bytes.now) }
+    ensures { Says (λ x. x) result (schema_of row.now bytes.now) }
 {
     let count = part(bytes, COUNT_AT, 1)?;
     let codes = part(bytes, CODES_AT, usize::from(count[0]))?;

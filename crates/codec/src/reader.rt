@@ -3,7 +3,7 @@ ghost use Rattle.std.specs.Prelude.{◌≡◌, ℕ, ◌+◌, ◌*◌, ◌<◌, �
 ghost use Rattle.filing.specs.Views.{drafted, filed};
 ghost use Rattle.codec.specs.Answers.{Says, Placed};
 ghost use Rattle.codec.specs.Laws.{Matches, Differs, Followed, Cuts, WritesBack};
-ghost use Rattle.codec.specs.Reading.{headed as headedOf, counted as countedOf, lined as linedOf, body as body_of, reading};
+ghost use Rattle.codec.specs.Reading.{headed as headed_of, counted as counted_of, lined as lined_of, body as body_of, reading};
 ghost use Rattle.codec.specs.Table.{written_version};
 ghost use Rattle.codec.specs.declared.faults.ReadFault.TheVariants.{Schema};
 
@@ -21,7 +21,7 @@ const MOST_LINES: usize = 6;
 /// A draft with the head that stands at a place.
 fn headed(codes: &[u8], at: usize, bytes: &[u8]) -> Result<Draft, ReadFault>
     requires { length codes.now ≤ 20 }
-    ensures { Says drafted result (headedOf codes.now at bytes.now) }
+    ensures { Says drafted result (headed_of codes.now at bytes.now) }
 {
     let found = part(bytes, at, FIELD * codes.len())?;
     let mut draft = Draft::blank();
@@ -31,7 +31,7 @@ fn headed(codes: &[u8], at: usize, bytes: &[u8]) -> Result<Draft, ReadFault>
 
 /// The count of lines that stands at a place.
 fn counted(at: usize, bytes: &[u8]) -> Result<usize, ReadFault>
-    ensures says { Says (λ n. n) result (countedOf at bytes.now) }
+    ensures says { Says (λ n. n) result (counted_of at bytes.now) }
     ensures long { IfOk result (λ n. at + 1 ≤ length bytes.now) }
 {
     let found = part(bytes, at, 1)?;
@@ -52,7 +52,7 @@ fn lined(
 ) -> Result<(usize, Draft), ReadFault>
     requires few { length codes.now ≤ 20 }
     requires there { at ≤ length bytes.now }
-    ensures { Says (λ x. (x.0, drafted x.1)) result (linedOf codes.now count at bytes.now (drafted draft)) }
+    ensures { Says (λ x. (x.0, drafted x.1)) result (lined_of codes.now count at bytes.now (drafted draft)) }
 {
     let size = FIELD * codes.len();
     let mut full = draft;

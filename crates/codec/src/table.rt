@@ -1,7 +1,7 @@
 //! The versions of the format, and the field codes that each has.
 ghost use Rattle.std.specs.Prelude.{◌≡◌, ◌≤◌, length, IfSome};
 ghost use Rattle.std.specs.Option.{option_map};
-ghost use Rattle.codec.specs.Table.{row_of, written_version, written_row, heads as headsOf, first_off};
+ghost use Rattle.codec.specs.Table.{row_of, written_version, written_row, heads as heads_of, first_off};
 
 /// A version and the codes of its fields in their order, the head's before the line's.
 #[derive(Clone, Copy)]
@@ -54,7 +54,7 @@ pub(crate) fn written() -> Row
 
 /// How many codes stand before the first of a line's.
 pub(crate) fn heads(codes: &[u8]) -> usize
-    ensures counts { result ≡ headsOf codes.now }
+    ensures counts { result ≡ heads_of codes.now }
     ensures within { result ≤ length codes.now }
 {
     for (i, code) in codes.iter().enumerate() {

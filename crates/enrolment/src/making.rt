@@ -1,6 +1,6 @@
 //! How an enrolment is made from bare numbers, and which years it leaves without a limit.
 ghost use Rattle.std.specs.Prelude.{◌≡◌};
-ghost use Rattle.enrolment.specs.Exempt.{first_year, exempt as exemptYear, FirstYear};
+ghost use Rattle.enrolment.specs.Exempt.{first_year, exempt as exempt_year, FirstYear};
 ghost use Rattle.enrolment.specs.Ranges.{between, Lawful};
 ghost use Rattle.enrolment.specs.Views.{enrolled, Enrols};
 
@@ -73,7 +73,7 @@ impl Enrolment {
 
     /// Whether a year comes too early after first production to have a limit.
     pub fn exempt(&self, year: u64) -> bool
-        ensures { result ≡ exemptYear (enrolled self.now) year }
+        ensures { result ≡ exempt_year (enrolled self.now) year }
     {
         year < self.first_year() + 2
     }

@@ -1,7 +1,7 @@
 //! How a filing comes from another: another head, or one line more.
 ghost use Rattle.std.specs.Prelude.{◌≡◌};
 ghost use Rattle.filing.specs.Checks.{heading, adding};
-ghost use Rattle.filing.specs.Filing.{blank as blankFiling};
+ghost use Rattle.filing.specs.Filing.{blank as blank_filing};
 ghost use Rattle.filing.specs.Views.{fields_of, Built, LineChecked};
 
 use crate::faults::FilingFault;
@@ -27,7 +27,7 @@ fn blank_line() -> Line {
 impl Filing {
     /// Facility 1, year 2017, all figures 0, no lines.
     pub(crate) fn blank() -> Filing
-        ensures { fields_of result ≡ blankFiling }
+        ensures { fields_of result ≡ blank_filing }
     {
         let none = Kilograms { kg: 0 };
         Filing {

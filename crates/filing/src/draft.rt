@@ -1,7 +1,7 @@
 //! A filing that is being drawn up.
 ghost use Rattle.std.specs.Prelude.{◌≡◌};
 ghost use Rattle.filing.specs.Checks.{heading, adding};
-ghost use Rattle.filing.specs.Filing.{blank as blankFiling};
+ghost use Rattle.filing.specs.Filing.{blank as blank_filing};
 ghost use Rattle.filing.specs.Sound.{Sound};
 ghost use Rattle.filing.specs.Views.{fields_of, drafted, filed, Wrote, Numbered};
 
@@ -19,7 +19,7 @@ pub struct Draft {
 impl Draft {
     /// Facility 1, year 2017, all figures 0, no lines.
     pub fn blank() -> Draft
-        ensures { drafted result ≡ blankFiling }
+        ensures { drafted result ≡ blank_filing }
     {
         Draft {
             filing: Filing::blank(),

@@ -1,6 +1,6 @@
 //! What can be read of a filing, drafted or signed.
 ghost use Rattle.std.specs.Prelude.{◌≡◌, map, length, take};
-ghost use Rattle.filing.specs.Emissions.{total as total_of, emissions as emissionsOf};
+ghost use Rattle.filing.specs.Emissions.{total as total_of, emissions as emissions_of};
 ghost use Rattle.filing.specs.Filing.{attributed_sum};
 ghost use Rattle.filing.specs.Parts.{head_fields, line_fields};
 ghost use Rattle.filing.specs.Views.{fields_of};
@@ -44,7 +44,7 @@ impl Filing {
 
     /// The year's emissions: the total in whole tonnes, a half up.
     pub fn emissions(&self) -> Tonnes
-        ensures { result.tonnes ≡ emissionsOf (fields_of self.now).head }
+        ensures { result.tonnes ≡ emissions_of (fields_of self.now).head }
     {
         self.total().in_tonnes()
     }

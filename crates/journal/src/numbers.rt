@@ -1,6 +1,6 @@
 //! Numbers in decimal digits.
 ghost use Rattle.std.specs.Prelude.{◌≡◌, ◌^◌, ◌≤◌, true, MatchOption};
-ghost use Rattle.journal.specs.Numbers.{digit, all_digits, value as value_of, decimal as decimalOf};
+ghost use Rattle.journal.specs.Numbers.{digit, all_digits, value as value_of, decimal as decimal_of};
 
 const ZERO: u8 = b'0';
 
@@ -48,7 +48,7 @@ fn value(word: &[u8]) -> Option<u64>
 
 /// The number that a word writes in digits. Leading zeros change nothing.
 pub fn decimal(word: &[u8]) -> Result<u64, NumberFault>
-    ensures { result ≡ decimalOf word.now }
+    ensures { result ≡ decimal_of word.now }
 {
     if word.is_empty() || !all_digits(word) {
         return Err(NumberFault::NoNumber);

@@ -2,7 +2,7 @@
 ghost use Rattle.std.specs.Prelude.{◌≡◌, IfOk, vec_items};
 ghost use Rattle.std.specs.Option.{option_map};
 ghost use Rattle.journal.specs.Words.{contents};
-ghost use Rattle.journal.specs.Sources.{record_word, is_hex, hex_digit, hex_byte, hex_bytes, unhexed as unhexedOf, Sized};
+ghost use Rattle.journal.specs.Sources.{record_word, is_hex, hex_digit, hex_byte, hex_bytes, unhexed as unhexed_of, Sized};
 
 use crate::steps::is;
 use std::alloc::{AllocError, Global};
@@ -91,7 +91,7 @@ fn pairs(heap: Global, digits: &[u8]) -> Result<Option<Vec<u8>>, AllocError>
 /// The bytes that a word writes in hexadecimal digits after `0x`, two digits to a byte.
 /// None where the word does not begin so, has an odd number of digits, or has a byte that is no such digit.
 pub fn unhexed(heap: Global, word: &[u8]) -> Result<Option<Vec<u8>>, AllocError>
-    ensures bytes { IfOk result (λ o. option_map vec_items o ≡ unhexedOf word.now) }
+    ensures bytes { IfOk result (λ o. option_map vec_items o ≡ unhexed_of word.now) }
     ensures size { IfOk result (λ o. Sized word.now (option_map vec_items o)) }
 {
     if !is_hex(word) {

@@ -1,10 +1,10 @@
 //! The steps that the lines of a journal say.
 ghost use Rattle.std.specs.Prelude.{◌≡◌, ◌≤◌, Some, Ok};
 ghost use Rattle.std.specs.Str.{bytes_eq};
-ghost use Rattle.journal.specs.Numbers.{decimal as decimalOf};
+ghost use Rattle.journal.specs.Numbers.{decimal as decimal_of};
 ghost use Rattle.journal.specs.Words.{contents};
 ghost use Rattle.journal.specs.Meaning.{Means, Spells};
-ghost use Rattle.journal.specs.Steps.{place as place_of, placed, numbers as numbersOf, headed, lined, lone, named as named_of, step as step_of};
+ghost use Rattle.journal.specs.Steps.{place as place_of, placed, numbers as numbers_of, headed, lined, lone, named as named_of, step as step_of};
 
 use crate::numbers::{NumberFault, decimal};
 use filing::fields::{HeadFields, LineFields};
@@ -45,7 +45,7 @@ impl Misread {
 
 /// The number that the word at the place `at` of its line writes.
 fn number(word: &[u8], at: usize) -> Result<u64, Misread>
-    ensures { result ≡ placed at (decimalOf word.now) }
+    ensures { result ≡ placed at (decimal_of word.now) }
 {
     match decimal(word) {
         Ok(number) => Ok(number),
@@ -57,7 +57,7 @@ fn number(word: &[u8], at: usize) -> Result<u64, Misread>
 /// The numbers that the words after a step's own write. N are due, few enough that the place of each is a `usize`.
 fn numbers<const N: usize>(words: &[&[u8]]) -> Result<[u64; N], Misread>
     requires { N ≤ 7 }
-    ensures { result ≡ numbersOf 2 N (contents words.now) }
+    ensures { result ≡ numbers_of 2 N (contents words.now) }
 {
     let mut found = [0; N];
     for i in 0..N {

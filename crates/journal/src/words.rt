@@ -1,6 +1,6 @@
 //! The words of a line.
 ghost use Rattle.std.specs.Prelude.{◌≡◌, [], ◌++◌, IfOk, OnOk};
-ghost use Rattle.journal.specs.Words.{blank, uncommented as uncommentedOf, word as word_of, split as splitOf, words as words_of, contents};
+ghost use Rattle.journal.specs.Words.{blank, uncommented as uncommented_of, word as word_of, split as split_of, words as words_of, contents};
 
 use crate::lines::place;
 use std::alloc::{AllocError, Global};
@@ -21,7 +21,7 @@ fn is_blank(byte: u8) -> bool
 
 /// The line without its comment, which goes from a `#` to the end.
 fn uncommented(line: &[u8]) -> &[u8]
-    ensures { result.now ≡ uncommentedOf line.now }
+    ensures { result.now ≡ uncommented_of line.now }
 {
     match place(line, COMMENT) {
         Some(end) => &line[0..end],
@@ -40,7 +40,7 @@ fn add<'a>(words: &mut Vec<&'a [u8]>, bytes: &'a [u8]) -> Result<(), AllocError>
 }
 
 fn split<'a>(heap: Global, bytes: &'a [u8]) -> Result<Vec<&'a [u8]>, AllocError>
-    ensures { IfOk result (λ v. contents v.items ≡ splitOf [] bytes.now) }
+    ensures { IfOk result (λ v. contents v.items ≡ split_of [] bytes.now) }
 {
     let mut words = Vec::new(heap);
     let mut start = 0;

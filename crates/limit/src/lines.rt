@@ -2,7 +2,7 @@
 ghost use Rattle.std.specs.Prelude.{◌≡◌};
 ghost use Rattle.filing.specs.Views.{fields_of};
 ghost use Rattle.enrolment.specs.Views.{enrolled};
-ghost use Rattle.standard.specs.Contribution.{contribution as contributionOf};
+ghost use Rattle.standard.specs.Contribution.{contribution as contribution_of};
 ghost use Rattle.standard.specs.Places.{filings};
 ghost use Rattle.limit.specs.Lines.{limit_of, Means};
 ghost use Rattle.limit.specs.Outcome.{told};
@@ -27,8 +27,8 @@ pub fn limit_of(
     year: u64,
     filing: &Filing,
 ) -> Outcome
-    ensures value { told result ≡ limit_of (contributionOf calculation (enrolled enrolment.now) (filings places.now) year) (fields_of filing.now).lines }
-    ensures means { Means (contributionOf calculation (enrolled enrolment.now) (filings places.now) year) (fields_of filing.now).lines (told result) }
+    ensures value { told result ≡ limit_of (contribution_of calculation (enrolled enrolment.now) (filings places.now) year) (fields_of filing.now).lines }
+    ensures means { Means (contribution_of calculation (enrolled enrolment.now) (filings places.now) year) (fields_of filing.now).lines (told result) }
 {
     let lines = filing.lines();
     let mut sum = 0;

@@ -1,10 +1,10 @@
 -- The three laws of a register, in words about histories and look-ups only.
 use Rattle.std.specs.Prelude.{◌≡◌, ℕ, zero, suc, ◌+◌, Bool, true, false, ◌&&◌, List, [], ◌∷◌, ◌++◌, ℤ, is_some, Some, ◌==◌, nat_le}
 use Rattle.std.specs.Option.{option_map}
-use Rattle.filing.specs.Emissions.{emissions as emissionsOf}
+use Rattle.filing.specs.Emissions.{emissions as emissions_of}
 use Rattle.filing.specs.Filing.{FilingFields}
 use Rattle.enrolment.specs.declared.fields.EnrolmentFields.{EnrolmentFields}
-use Rattle.limit.specs.Balance.{balance as balanceOf}
+use Rattle.limit.specs.Balance.{balance as balance_of}
 use Rattle.limit.specs.Laws.{Meaning}
 use Rattle.limit.specs.Outcome as outcome
 use Rattle.register.specs.Acceptance.{accepted}
@@ -22,9 +22,9 @@ pub record Figures (meaning : Meaning) (es : List Event) (f y : ℕ) (a : Assess
   pub filing : FilingFields
   pub enrolled : enrolment_of es f ≡ Some enrolment
   pub stands : standing_at es f y ≡ Some filing
-  pub emitted : a.emissions ≡ emissionsOf filing.head
+  pub emitted : a.emissions ≡ emissions_of filing.head
   pub settled : a.outcome ≡ meaning enrolment (places_of es f) y
-  pub balanced : a.balance ≡ balanceOf a.outcome a.emissions
+  pub balanced : a.balance ≡ balance_of a.outcome a.emissions
 
 -- an assessment without its number
 abbrev pub unnumbered : AssessmentFields → ℕ × outcome.Told × ℤ

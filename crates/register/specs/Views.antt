@@ -1,7 +1,7 @@
 -- The plain numbers of what a register holds.
 use Rattle.std.specs.Prelude.{◌≡◌, ℕ, ◌+◌, ◌-◌, cond, List, replicate, Some, None, Ok, Err, Option, Result, slice_index_or}
 use Rattle.std.specs.Option.{option_map}
-use Rattle.filing.specs.Emissions.{emissions as emissionsOf}
+use Rattle.filing.specs.Emissions.{emissions as emissions_of}
 use Rattle.filing.specs.Filing.{FilingFields}
 use Rattle.enrolment.specs.Ranges.{between}
 use Rattle.enrolment.specs.declared.enrolment.Enrolment.{Enrolment}
@@ -37,7 +37,7 @@ logged e = record { facility = e.facility; year = e.year; before = filing_at e.b
 
 abbrev pub anew_of : Meaning → EnrolmentFields → Places → ℕ → ℕ → Option FilingFields → Option AssessmentFields
 anew_of meaning e ps k n None = None
-anew_of meaning e ps k n (Some x) = Some (assessment (emissionsOf x.head) (meaning e ps (2017 + k)) n)
+anew_of meaning e ps k n (Some x) = Some (assessment (emissions_of x.head) (meaning e ps (2017 + k)) n)
 
 -- the assessment that is made with the number n at the place k, from an enrolment and a facility's places
 abbrev pub anew : Meaning → EnrolmentFields → Places → ℕ → ℕ → Option AssessmentFields

@@ -2,7 +2,7 @@
 ghost use Rattle.std.specs.Prelude.{◌≡◌, ◌≤◌, [], is_some, IfOk, Some as some, OnErr};
 ghost use Rattle.filing.specs.Views.{filed};
 ghost use Rattle.register.specs.Answers.{answer_to, number_answer, enrol_answer};
-ghost use Rattle.register.specs.Calls.{enrol as enrolCall, file as fileCall, amend as amendCall, withdraw as withdrawCall, take_back, close as closeCall};
+ghost use Rattle.register.specs.Calls.{enrol as enrol_call, file as file_call, amend as amend_call, withdraw as withdraw_call, take_back, close as close_call};
 ghost use Rattle.register.specs.Lived.{Lived, Lives};
 
 use crate::filling::LAST_NUMBER;
@@ -54,7 +54,7 @@ impl Plant {
 impl<M: LimitMethod> Register<M> {
     /// Enrols a facility; an enrolment stays.
     pub fn enrol(&mut self, fields: EnrolmentFields) -> Result<(), Refusal>
-        ensures lives { Lives M.LimitMethod.meaning self.old self.new (enrolCall fields) (λ m cs. enrol_answer result ≡ answer_to (M.LimitMethod.meaning m) (enrolCall fields) cs) }
+        ensures lives { Lives M.LimitMethod.meaning self.old self.new (enrol_call fields) (λ m cs. enrol_answer result ≡ answer_to (M.LimitMethod.meaning m) (enrol_call fields) cs) }
         ensures refused { OnErr result (self.new ≡ self.old) }
     {
         let Ok(enrolment) = Enrolment::new(fields) else {
@@ -70,7 +70,7 @@ impl<M: LimitMethod> Register<M> {
 
     /// Files at a place where nothing stands.
     pub fn file(&mut self, signed: Signed) -> Result<u64, Refusal>
-        ensures lives { Lives M.LimitMethod.meaning self.old self.new (fileCall (filed signed)) (λ m cs. number_answer result ≡ answer_to (M.LimitMethod.meaning m) (fileCall (filed signed)) cs) }
+        ensures lives { Lives M.LimitMethod.meaning self.old self.new (file_call (filed signed)) (λ m cs. number_answer result ≡ answer_to (M.LimitMethod.meaning m) (file_call (filed signed)) cs) }
         ensures refused { OnErr result (self.new ≡ self.old) }
     {
         let facility = facility_of(&signed);
@@ -86,7 +86,7 @@ impl<M: LimitMethod> Register<M> {
 
     /// Files in the place of what stands.
     pub fn amend(&mut self, signed: Signed) -> Result<u64, Refusal>
-        ensures lives { Lives M.LimitMethod.meaning self.old self.new (amendCall (filed signed)) (λ m cs. number_answer result ≡ answer_to (M.LimitMethod.meaning m) (amendCall (filed signed)) cs) }
+        ensures lives { Lives M.LimitMethod.meaning self.old self.new (amend_call (filed signed)) (λ m cs. number_answer result ≡ answer_to (M.LimitMethod.meaning m) (amend_call (filed signed)) cs) }
         ensures refused { OnErr result (self.new ≡ self.old) }
     {
         let facility = facility_of(&signed);
@@ -102,7 +102,7 @@ impl<M: LimitMethod> Register<M> {
 
     /// Empties a place where a filing stands.
     pub fn withdraw(&mut self, facility: u64, year: u64) -> Result<u64, Refusal>
-        ensures lives { Lives M.LimitMethod.meaning self.old self.new (withdrawCall facility year) (λ m cs. number_answer result ≡ answer_to (M.LimitMethod.meaning m) (withdrawCall facility year) cs) }
+        ensures lives { Lives M.LimitMethod.meaning self.old self.new (withdraw_call facility year) (λ m cs. number_answer result ≡ answer_to (M.LimitMethod.meaning m) (withdraw_call facility year) cs) }
         ensures refused { OnErr result (self.new ≡ self.old) }
     {
         let Ok(place) = self.place_of(facility, year) else {
@@ -136,7 +136,7 @@ impl<M: LimitMethod> Register<M> {
 
     /// Empties the undo log: what was done can't be taken back any more.
     pub fn close(&mut self)
-        ensures { Lives M.LimitMethod.meaning self.old self.new closeCall (λ m cs. Unit {0}) }
+        ensures { Lives M.LimitMethod.meaning self.old self.new close_call (λ m cs. Unit {0}) }
     {
         self.log.clear();
     }

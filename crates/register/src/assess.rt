@@ -1,7 +1,7 @@
 //! How a facility's places are assessed anew.
 ghost use Rattle.std.specs.Prelude.{◌≡◌, ℕ, ◌+◌, ◌<◌, ◌≤◌, None as none, slice_index_or};
 ghost use Rattle.std.specs.Option.{option_map};
-ghost use Rattle.filing.specs.Emissions.{emissions as emissionsOf};
+ghost use Rattle.filing.specs.Emissions.{emissions as emissions_of};
 ghost use Rattle.filing.specs.Views.{filed};
 ghost use Rattle.enrolment.specs.Views.{enrolled};
 ghost use Rattle.limit.specs.Outcome.{told};
@@ -37,7 +37,7 @@ fn outcome_of<M: LimitMethod>(
 
 /// The assessment of a filing by its outcome.
 fn assessment_of(signed: &Signed, outcome: Outcome, number: u64) -> Assessment
-    ensures { assessment_fields result ≡ assessment (emissionsOf (filed signed.now).head) (told outcome) number }
+    ensures { assessment_fields result ≡ assessment (emissions_of (filed signed.now).head) (told outcome) number }
 {
     let emissions = signed.filing().emissions();
     Assessment {

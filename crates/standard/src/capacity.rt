@@ -3,7 +3,7 @@ ghost use Rattle.std.specs.Prelude.{◌≡◌, ℕ, ◌+◌, ◌≤◌, [], ◌�
 ghost use Rattle.filing.specs.Parts.{line_fields};
 ghost use Rattle.filing.specs.Views.{fields_of};
 ghost use Rattle.standard.specs.Adding.{Adds};
-ghost use Rattle.standard.specs.Capacity.{dated, lines_at, of_unit, triggers as triggersIn, megawatts, additions, triggering_megawatts, other_megawatts};
+ghost use Rattle.standard.specs.Capacity.{dated, lines_at, of_unit, triggers as triggers_in, megawatts, additions, triggering_megawatts, other_megawatts};
 ghost use Rattle.standard.specs.Places.{filing_at, filings, up_to};
 
 use crate::places::up_to;
@@ -34,7 +34,7 @@ fn of_unit(line: &Line, unit: u16) -> bool
 
 /// Whether an addition in that year triggers the decreasing standard.
 fn triggers(line: &Line, year: u64) -> bool
-    ensures { result ≡ triggersIn (dated year (line_fields line.now)) }
+    ensures { result ≡ triggers_in (dated year (line_fields line.now)) }
 {
     line.added.mw >= TRIGGER_MW && year >= TRIGGER_YEAR && line.ratio < TRIGGER_RATIO
 }

@@ -2,7 +2,7 @@
 ghost use Rattle.std.specs.Prelude.{◌≡◌, ◌*◌};
 ghost use Rattle.enrolment.specs.Views.{enrolled};
 ghost use Rattle.filing.specs.Parts.{line_fields};
-ghost use Rattle.standard.specs.Contribution.{contribution as contributionOf};
+ghost use Rattle.standard.specs.Contribution.{contribution as contribution_of};
 ghost use Rattle.standard.specs.Places.{filings};
 ghost use Rattle.standard.specs.Views.{contributed};
 
@@ -35,7 +35,7 @@ pub fn contribution(
     year: u64,
     line: &Line,
 ) -> Result<Contribution, Cause>
-    ensures { contributed result ≡ contributionOf calculation (enrolled enrolment.now) (filings places.now) year (line_fields line.now) }
+    ensures { contributed result ≡ contribution_of calculation (enrolled enrolment.now) (filings places.now) year (line_fields line.now) }
 {
     let production = line.production.rounded();
     match line.kind {
