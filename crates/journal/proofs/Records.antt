@@ -1,5 +1,5 @@
 -- A line names a record only if it has two words.
-use Rattle.std.proofs.Common.{◌≡◌, ℕ, cond, List, [], ◌∷◌, length, get_or, Some, None, codes, Option, refl, arith, Bor}
+use Rattle.std.proofs.Common.{◌≡◌, ℕ, cond, List, [], ◌∷◌, length, get_or, Some, None, codes, refl, arith, Bor}
 use Rattle.std.specs.Str.{bytes_eq}
 use Rattle.journal.specs.Words.{contents}
 use Rattle.journal.specs.Sources.{record_word}

@@ -9,8 +9,8 @@ use std::test::Fail;
 #[test]
 fn texts(rt: HostRuntime) -> Result<(), Fail> {
     let (line, rest) = first_line(b"a b\nc");
-    assert!(rt; line == b"a b" && rest == b"c");
-    let lines: [(&[u8], &[&[u8]]); 6] = [
+    assert!(rt; line == b"a b".as_slice() && rest == b"c".as_slice());
+    let lines: [(&'static [u8], &'static [&'static [u8]]); 6] = [
         (b"head 1\t 2", &[b"head", b"1", b"2"]),
         (b" \t \r", &[]),
         (b"sign\r", &[b"sign"]),
