@@ -97,9 +97,9 @@ fn expected(step: &[u8], at: usize) -> &'static str {
     if place >= 7 {
         return "a word";
     }
-    if step == b"head" {
+    if step == b"head".as_slice() {
         HEAD[place]
-    } else if step == b"line" {
+    } else if step == b"line".as_slice() {
         LINE[place]
     } else {
         "a word"

@@ -12,6 +12,7 @@ mod tests;
 use crate::failures::Failure;
 use std::alloc::Global;
 use std::io::Read;
+use std::process::ExitCode;
 use std::{env, fs};
 
 /// The words after the program's own name.
@@ -90,10 +91,12 @@ fn obey(rt: &HostRuntime) -> Result<(), Failure> {
     }
 }
 
-fn main(rt: HostRuntime) -> Result<(), Failure> {
-    let done = obey(&rt);
-    if let Err(failure) = &done {
-        let _ = eprintln!(rt; "obps: {failure}");
+fn main(rt: HostRuntime) -> ExitCode {
+    match obey(&rt) {
+        Ok(()) => ExitCode::SUCCESS,
+        Err(failure) => {
+            let _ = eprintln!(rt; "obps: {failure}");
+            ExitCode::FAILURE
+        }
     }
-    done
 }

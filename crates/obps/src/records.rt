@@ -62,7 +62,7 @@ impl fmt::Display for RefusedRecord {
 
 /// Prints each record from the front, up to the end or to the first that is refused.
 pub(crate) fn show(rt: &HostRuntime, bytes: &[u8]) -> Result<(), Failure> {
-    let mut out = BufWriter::new(rt.alloc(), rt.stdout()).map_err(|_| std::alloc::AllocError)?;
+    let mut out = BufWriter::new(rt.alloc(), rt.stdout()).map_err(|_| Failure::Memory)?;
     let mut signed = Draft::blank().sign();
     let mut rest = bytes;
     let mut offset: usize = 0;

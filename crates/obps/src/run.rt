@@ -114,7 +114,7 @@ pub(crate) fn answer(
 
 /// Performs a journal and prints the answer to each of its lines.
 pub(crate) fn run(rt: &HostRuntime, text: &[u8]) -> Result<(), Failure> {
-    let mut out = BufWriter::new(rt.alloc(), rt.stdout()).map_err(|_| std::alloc::AllocError)?;
+    let mut out = BufWriter::new(rt.alloc(), rt.stdout()).map_err(|_| Failure::Memory)?;
     let mut desk = Desk::new();
     let mut rest = text;
     let mut number: u64 = 0;
