@@ -6,4 +6,7 @@ pub overflow_mul-kg-2 : goal.overflow_mul-kg-2
 overflow_mul-kg-2 c = omega (arith, mul-le c.args.kg c.from.result 400000000000 100 c.requires.kilograms (omega arith))
 
 pub invariant_of-three_figures : goal.invariant_of-three_figures
-invariant_of-three_figures c = (omega (arith, mul-le c.args.kg c.from.result 400000000000 100 c.requires.kilograms (omega arith)), (omega arith, tt))
+invariant_of-three_figures c = record {
+  small = omega (arith, mul-le c.args.kg c.from.result 400000000000 100 c.requires.kilograms (omega arith));
+  divides = omega arith;
+}

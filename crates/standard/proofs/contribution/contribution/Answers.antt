@@ -2,16 +2,16 @@ use Rattle.std.proofs.lemmas.Result.{err_from_is_err_and}
 use Rattle.standard.proofs.ByKind.{at_stated, at_calculated, not_calculated, barred, at_capacity}
 use Rattle.standard.proofs.contribution.contribution.Goals as goal
 
-pub returns-in_err-standard : goal.returns-in_err-standard
-returns-in_err-standard c =
+pub returns-in_err-standard-in-FromYears : goal.returns-in_err-standard-in-FromYears
+returns-in_err-standard-in-FromYears c =
     let p = err_from_is_err_and c.from_residual.result c.from_residual.ensures.1 in
-    rw (p.1, p.2) (not_calculated _ _ _ _ c.args.line.now _ c.rounded-production.ensures.value _ c.in-FromYears.is c.in-Calculated.is c.in_err-standard.ensures)
+    rw (p.1, p.2) (not_calculated _ _ _ _ c.args.line.now _ c.rounded-production.ensures.value _ c.in-FromYears.is c.in-Calculated.is c.in_err-standard-in-FromYears.ensures)
 
 pub returns-in-Numerical : goal.returns-in-Numerical
 returns-in-Numerical c = at_stated _ _ _ _ c.args.line.now _ c.rounded-production.ensures.value _ c.in-Numerical.is c.at_standard.ensures
 
-pub returns-in_ok-standard : goal.returns-in_ok-standard
-returns-in_ok-standard c = at_calculated _ _ _ _ c.args.line.now _ c.rounded-production.ensures.value _ _ c.in-FromYears.is c.in-Calculated.is c.in_ok-standard.ensures c.at_standard-in-FromYears.ensures
+pub returns-in_ok-standard-in-FromYears : goal.returns-in_ok-standard-in-FromYears
+returns-in_ok-standard-in-FromYears c = at_calculated _ _ _ _ c.args.line.now _ c.rounded-production.ensures.value _ _ c.in-FromYears.is c.in-Calculated.is c.in_ok-standard-in-FromYears.ensures c.at_standard-in-FromYears.ensures
 
 pub returns-in-Barred : goal.returns-in-Barred
 returns-in-Barred c = barred _ _ _ _ c.args.line.now c.in-Barred.is c.in-Calculated.is

@@ -25,7 +25,7 @@ returns-then-made-eq-WITHOUT_LINE c =
 pub invariant_of-result : goal.invariant_of-result
 invariant_of-result c =
     let few = few_lines_filed _ _ c.filing-filing.ensures.sound c.lines-lines.ensures.fields in
-    (omega arith, ((omega arith, omega arith), tt))
+    record { emitted = omega arith; made = (omega arith, omega arith) }
 
 pub returns : goal.returns
 returns c =
