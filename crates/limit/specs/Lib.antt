@@ -5,3 +5,4 @@ pub mod Laws
 pub mod Balance
 pub mod Same
 pub mod Small
+pub mod Either

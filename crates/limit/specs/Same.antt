@@ -1,6 +1,7 @@
 -- Places that agree up to a year have the same outcome there.
 use Rattle.std.specs.Prelude.{◌≡◌, ℕ, ◌-◌, ◌<◌, ◌≤◌, Bool, true, false, cond, ◌&&◌, get_or, Some, None, Option, nat_le, nat_lt, slice_index_or, refl}
-use Rattle.std.proofs.Common.{sym, ap, ◌∙◌, arith, get_or-take}
+use Rattle.std.proofs.Common.{sym, ap, ◌∙◌, get_or-take}
+use Rattle.std.proofs.Math.Numerals.{sub-suc-lt}
 use Rattle.std.proofs.lemmas.Bool.{and_parts, leb-true}
 use Rattle.filing.specs.Filing.{FilingFields}
 use Rattle.filing.specs.Kinds.{kind_of}
@@ -21,7 +22,7 @@ standing_same ps qs y e =
     cond_same (nat_le 2017 y && nat_le y 2036) (slice_index_or ps (y - 2017) None) (slice_index_or qs (y - 2017) None) None
     (λ t.
     let low : 2017 ≤ y = leb-true 2017 y (and_parts (nat_le 2017 y) (nat_le y 2036) t).0 in
-    let lt : y - 2017 < y - 2016 = omega arith in
+    let lt : y - 2017 < y - 2016 = sub-suc-lt y 2016 low in
     sym (get_or-take (y - 2016) ps (y - 2017) None lt) ∙ ap (λ (l : Places). get_or l (y - 2017) None) e ∙ get_or-take (y - 2016) qs (y - 2017) None lt)
 
 -- what the lines contribute is read off the places up to the year alone
@@ -32,3 +33,6 @@ filing_same free by e ps qs y (Some f) h = ap (λ (past : Places). cond (nat_lt 
 
 pub outcome_same : (free : Bool) (by : Calculation) (e : EnrolmentFields) (ps qs : Places) (y : ℕ) → up_to y ps ≡ up_to y qs → of_filing free by e ps y (standing ps y) ≡ of_filing free by e qs y (standing qs y)
 outcome_same free by e ps qs y h = filing_same free by e ps qs y (standing ps y) h ∙ ap (of_filing free by e qs y) (standing_same ps qs y h)
+
+pub outcome_vacant : (free : Bool) (by : Calculation) (e : EnrolmentFields) (ps : Places) (y : ℕ) → standing ps y ≡ None → of_filing free by e ps y (standing ps y) ≡ no_limit 15
+outcome_vacant free by e ps y h = ap (of_filing free by e ps y) h

@@ -6,9 +6,8 @@ ghost use Rattle.limit.specs.Methods.{of_filing, industrial, station, station_ex
 ghost use Rattle.limit.specs.Outcome.{told};
 ghost use Rattle.enrolment.specs.Exempt as SpecsExempt;
 ghost use Rattle.standard.specs.declared.calculation.Calculation.TheVariants.{FromYears, Barred};
-ghost use Rattle.limit.specs.Same.{outcome_same};
+ghost use Rattle.limit.specs.Same.{outcome_same, outcome_vacant};
 ghost use Rattle.limit.specs.Small.{outcome_small};
-ghost use Rattle.std.proofs.Common.{rules};
 
 use crate::lines::limit_of;
 use crate::method::LimitMethod;
@@ -66,7 +65,7 @@ impl LimitMethod for Industrial {
 
     ghost later = { λ m e ps qs y h. outcome_same (SpecsExempt.exempt e y) FromYears e ps qs y h };
 
-    ghost vacant = { Prim.search rules };
+    ghost vacant = { λ m e ps y h. outcome_vacant (SpecsExempt.exempt e y) FromYears e ps y h };
 
     ghost most = { λ m e ps y h. outcome_small (SpecsExempt.exempt e y) FromYears e ps y h };
 
@@ -86,7 +85,7 @@ impl LimitMethod for Station {
 
     ghost later = { λ m e ps qs y h. outcome_same (station_exempt e y) Barred e ps qs y h };
 
-    ghost vacant = { Prim.search rules };
+    ghost vacant = { λ m e ps y h. outcome_vacant (station_exempt e y) Barred e ps y h };
 
     ghost most = { λ m e ps y h. outcome_small (station_exempt e y) Barred e ps y h };
 

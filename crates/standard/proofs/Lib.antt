@@ -7,3 +7,4 @@ pub mod BaseMeaning
 pub mod Additions
 pub mod Yields
 pub mod ByKind
+pub mod Small
