@@ -1,6 +1,6 @@
 -- The laws of every limit method's meaning.
 use Rattle.std.specs.Prelude.{◌≡◌, ℕ, ◌≤◌, Some, None, Option}
-use Rattle.std.specs.List.{AllByRecursion as All}
+use Rattle.std.specs.List.{AllByRecursion}
 use Rattle.quantity.specs.Ranges.{most_tonnes}
 use Rattle.filing.specs.Filing.{FilingFields}
 use Rattle.filing.specs.Sound.{Sound}
@@ -30,4 +30,4 @@ AtMost (fault c l) = Unit {0}
 
 -- on sound filings, as all signed filings are, limits are at most ten to the twelfth
 abbrev pub Most : Meaning → Type 0
-Most meaning = (e : EnrolmentFields) (ps : Places) (y : ℕ) → All SoundAt ps → AtMost (meaning e ps y)
+Most meaning = (e : EnrolmentFields) (ps : Places) (y : ℕ) → AllByRecursion SoundAt ps → AtMost (meaning e ps y)

@@ -2,7 +2,7 @@
 use Rattle.std.specs.Prelude.{◌≡◌, ℕ, zero, suc, ◌+◌, ◌-◌, ◌*◌, ◌≤◌, Bool, true, false, cond, ◌&&◌, List, [], ◌∷◌, length, Some, None, Ok, Err, Option, Result, nat_le, nat_lt, slice_index_or}
 use Rattle.std.proofs.Common.{zero-le, sym, ◌∙◌, subst, le_trans, add-le-add, lit<, lit≤}
 use Rattle.std.proofs.Math.Nat.{add_comm, suc-mul, mul-le-mul_right}
-use Rattle.std.specs.List.{AllByRecursion as All}
+use Rattle.std.specs.List.{AllByRecursion}
 use Rattle.std.proofs.ByRecursion.{All-from_get_or}
 use Rattle.quantity.specs.Ranges.{most_tonnes}
 use Rattle.quantity.specs.Rounding.{nearest}
@@ -35,7 +35,7 @@ both_small i most (Ok a) (Err e) p q = tt
 both_small i most (Err c) b p q = tt
 
 module _ (yield : LineFields → Result ℕ Cause) where
-  summed_small : (i : ℕ) (ls : List LineFields) → All (λ l. Below 1000000000000000000 (yield l)) ls → Sum (length ls * 1000000000000000000) (summed yield i ls)
+  summed_small : (i : ℕ) (ls : List LineFields) → AllByRecursion (λ l. Below 1000000000000000000 (yield l)) ls → Sum (length ls * 1000000000000000000) (summed yield i ls)
   summed_small i [] h = zero-le
   summed_small i (l ∷ ls) h =
       let one_more : 1000000000000000000 + length ls * 1000000000000000000 ≡ suc (length ls) * 1000000000000000000 =
@@ -51,7 +51,7 @@ module _ (yield : LineFields → Result ℕ Cause) where
       nearest_within s 10000000 (nearest s 10000000) most_tonnes (lit< tt) (le_trans h (le_trans six top)) (nearest_near s 10000000 (lit< tt))
   tonnes_small (Err e) n few h = tt
 
-  limit_small : (ls : List LineFields) → length ls ≤ 6 → All (λ l. Below 1000000000000000000 (yield l)) ls → AtMost (limit_of yield ls)
+  limit_small : (ls : List LineFields) → length ls ≤ 6 → AllByRecursion (λ l. Below 1000000000000000000 (yield l)) ls → AtMost (limit_of yield ls)
   unfolding limit_of
   limit_small ls few h = tonnes_small (summed yield 1 ls) (length ls) few (summed_small 1 ls h)
 
@@ -67,7 +67,7 @@ filing_small : (free : Bool) (by : Calculation) (e : EnrolmentFields) (ps : Plac
 filing_small free by e ps y None s = tt
 filing_small free by e ps y (Some f) s = chosen_small (nat_lt y 2019) free (limit_of (contribution by e ps y) f.lines) (lines_small by e ps y f s)
 
-sound_at : (ps : Places) (i : ℕ) → All SoundAt ps → SoundAt (slice_index_or ps i None)
+sound_at : (ps : Places) (i : ℕ) → AllByRecursion SoundAt ps → SoundAt (slice_index_or ps i None)
 sound_at [] i h = tt
 sound_at (p ∷ ps) zero h = h.0
 sound_at (p ∷ ps) (suc i) h = sound_at ps i h.1
@@ -76,5 +76,5 @@ sound_standing : (b : Bool) (o : Option FilingFields) → SoundAt o → SoundAt 
 sound_standing true o h = h
 sound_standing false o h = tt
 
-pub outcome_small : (free : Bool) (by : Calculation) (e : EnrolmentFields) (ps : Places) (y : ℕ) → All SoundAt ps → AtMost (of_filing free by e ps y (standing ps y))
+pub outcome_small : (free : Bool) (by : Calculation) (e : EnrolmentFields) (ps : Places) (y : ℕ) → AllByRecursion SoundAt ps → AtMost (of_filing free by e ps y (standing ps y))
 outcome_small free by e ps y h = filing_small free by e ps y (standing ps y) (sound_standing (nat_le 2017 y && nat_le y 2036) (slice_index_or ps (y - 2017) None) (sound_at ps (y - 2017) h))

@@ -1,6 +1,6 @@
 -- A line contributes at most ten to the eleventh tonnes, which are ten to the eighteenth ten-millionths.
 use Rattle.std.proofs.Common.{◌≡◌, ℕ, zero, suc, ◌+◌, ◌-◌, ◌*◌, ◌<◌, ◌≤◌, Bool, true, false, cond, List, [], ◌∷◌, Some, Ok, Err, Result, ◌==◌, nat_lt, slice_index, sym, refl, subst, mul-le-mul_left, arith, lit≤}
-use Rattle.std.specs.List.{AllByRecursion as All}
+use Rattle.std.specs.List.{AllByRecursion}
 use Rattle.std.proofs.lemmas.Bool.{ltb-false}
 use Rattle.std.proofs.lemmas.Bool.Decides.{nat_tests}
 use Rattle.quantity.specs.Figures.{three_figures}
@@ -23,7 +23,7 @@ use Rattle.standard.specs.declared.calculation.Calculation.{Calculation}
 use Rattle.standard.specs.declared.calculation.Calculation.TheVariants.{FromYears, Barred}
 use Rattle.standard.specs.declared.causes.Cause.{Cause}
 use Rattle.standard.specs.declared.causes.Cause.TheVariants as cause
-use Rattle.standard.proofs.Yields.{product_small, yield_small, weighed_small as product-weighed}
+use Rattle.standard.proofs.Yields.{product_small, yield_small, weighed_small as product_weighed}
 
 -- at most so much, where there is an answer
 abbrev pub Below : ℕ → Result ℕ Cause → Type 0
@@ -49,7 +49,7 @@ at_standard_small : (p : ℕ) (s : Result ℕ Cause) → p ≤ 100000000000 → 
 at_standard_small p (Ok s) a b = product_small p s a b
 at_standard_small p (Err c) a b = tt
 
-entries_small : (xs : List ℕ) (i : ℕ) → All (λ x. x ≤ 370) xs → slice_index xs i ≤ 370
+entries_small : (xs : List ℕ) (i : ℕ) → AllByRecursion (λ x. x ≤ 370) xs → slice_index xs i ≤ 370
 entries_small [] i h = omega arith
 entries_small (x ∷ xs) zero h = h.0
 entries_small (x ∷ xs) (suc i) h = entries_small xs i h.1
@@ -67,7 +67,7 @@ unit_small p t u y true true e h = omega arith
 unit_small p t u y true false e h = tt
 unit_small p t u y false c e h =
     let pos : 0 < t + u = grind (arith, nat_tests) in
-    let small = yield_small (p * weighed t u y) (t + u) (nearest (p * weighed t u y * 10000) (t + u)) pos (product-weighed p (weighed t u y) (t + u) h (weighed_small t u y)) refl in
+    let small = yield_small (p * weighed t u y) (t + u) (nearest (p * weighed t u y * 10000) (t + u)) pos (product_weighed p (weighed t u y) (t + u) h (weighed_small t u y)) refl in
     omega arith
 
 kind_small : (k : LineKind) (by : Calculation) (e : EnrolmentFields) (past : Places) (y : ℕ) (l : LineFields) → InRange (line_numbers l) (line_ranges k) → Below 1000000000000000000 (of_kind (Some k) by e past y l)
