@@ -53,7 +53,7 @@ module _ {M : Type 0} (μ : M → Meaning) (m : M) (r : Register M) (es : List E
       let lo = leb-true 1 f p.0 in
       let hi = leb-true f 4 p.1 in
       enrolled_no μ m r es H f lo hi (plant_at f) (plant_read f lo hi) (absent lo hi (plant_at f) (plant_read f lo hi)))
-      (λ (t : between 1 4 f ≡ false). H.no-others f t)
+      (λ (t : between 1 4 f ≡ false). H.no_others f t)
       (cases_Bool (between 1 4 f))
 
   module _ (f y : ℕ) (e : Enrolment) (p : Option Signed) (placed : Placed r f y e p) where
@@ -66,7 +66,7 @@ module _ {M : Type 0} (μ : M → Meaning) (m : M) (r : Register M) (es : List E
     pub placed_stands : filing_at p ≡ standing_at es f y
     placed_stands =
         placed.stands (plant_at f) placed_read
-        ∙ ap (λ (ps : Places). standing ps y) (H.plants-are f placed.low placed.high (plant_at f) placed_read).places_are
+        ∙ ap (λ (ps : Places). standing ps y) (H.plants_are f placed.low placed.high (plant_at f) placed_read).places_are
         ∙ history_stands f y
 
 -- a call that asks first for the enrolment of f, and then for one thing more

@@ -1,6 +1,6 @@
 -- A take-back: the register holds what the events and the take-back say.
 use Rattle.std.proofs.Common.{◌≡◌, ℕ, suc, ◌+◌, ◌-◌, ◌<◌, List, [], ◌∷◌, ◌++◌, map, length, get_or, is_some, Some, None, vec_items, vec_len, sym, refl, ap, ◌∙◌, subst, arith}
-use Rattle.std.specs.List.{AllByRecursion as All}
+use Rattle.std.specs.List.{AllByRecursion}
 use Rattle.std.proofs.lemmas.List.{same_from_push, map-append}
 use Rattle.std.proofs.lemmas.Bool.{true≢false}
 use Rattle.enrolment.specs.declared.enrolment.Enrolment.{Enrolment}
@@ -29,7 +29,7 @@ uncons (a ∷ more) h = (a, (more, refl))
 module _ {M : Type 0} (μ : M → Meaning) (m : M) (r : Register M) (es : List Event) (H : Holds μ m r es) (full : vec_len r.log.entries ≡ 0 → ⊥) where
   -- the newest act of the undo log
   newest : (a : Act) × ((more : List Act) × (undo_log es ≡ a ∷ more))
-  newest = uncons (undo_log es) (λ h. full (H.log-len ∙ h))
+  newest = uncons (undo_log es) (λ h. full (H.log_len ∙ h))
 
   pub taken_unrefused : r.used < 1000000 → refusal_of take_back es ≡ None
   taken_unrefused h = check_passes (bare es) (spent es ∷ []) (not_bare μ m r es H full) ∙ check_passes (spent es) [] (not_spent μ m r es H h)
@@ -43,8 +43,8 @@ module _ {M : Type 0} (μ : M → Meaning) (m : M) (r : Register M) (es : List E
         same_from_push (map logged rest) (logged_acts more (closed_acts es)) (logged entry) (record { facility = a.facility; year = a.year; before = left_by (more ++ closed_acts es) a.facility a.year })
         (sym (map-append logged rest (entry ∷ [])) ∙ sym (ap (map logged) items) ∙ H.log_is ∙ ap (λ (l : List Act). logged_acts l (closed_acts es)) newest.1.1)
 
-    known_all : All (Known es) (newest.0 ∷ newest.1.0 ++ closed_acts es)
-    known_all = subst (λ (l : List Act). All (Known es) (l ++ closed_acts es)) newest.1.1 H.known
+    known_all : AllByRecursion (Known es) (newest.0 ∷ newest.1.0 ++ closed_acts es)
+    known_all = subst (λ (l : List Act). AllByRecursion (Known es) (l ++ closed_acts es)) newest.1.1 H.known
 
     -- its facility is enrolled
     pub taken_known : (d : Plant) → d ≡ get_or r.plants (entry.facility - 1) d → d.enrolment ≡ None → ⊥
@@ -61,22 +61,22 @@ module _ {M : Type 0} (μ : M → Meaning) (m : M) (r : Register M) (es : List E
         let more = newest.1.0 in
         let h = newest.1.1 in
         let after : undo_log (takes_back ∷ es) ≡ more = open_tail 0 es ∙ ap tail h in
-        let counted : n ≡ numbers es + 1 = number ∙ ap (λ (i : ℕ). i + 1) H.used-is in
+        let counted : n ≡ numbers es + 1 = number ∙ ap (λ (i : ℕ). i + 1) H.used_is in
         let events₀ : Refills es (takes_back ∷ es) f y (filing_at entry.before) (numbers es + 1) = subst (λ (l : Logged). Refills es (takes_back ∷ es) l.facility l.year l.before (numbers es + 1)) (sym lines.1) (take_back_refills es a more h) in
         let events : Refills es (takes_back ∷ es) f y (filing_at entry.before) n = subst (λ (i : ℕ). Refills es (takes_back ∷ es) f y (filing_at entry.before) i) (sym counted) events₀ in
-        let fit : Refit (μ m) r.plants s.plants f y e entry.before n = subst (λ (x : M). Refit (μ x) r.plants s.plants f y e entry.before n) H.method-is refit in (
+        let fit : Refit (μ m) r.plants s.plants f y e entry.before n = subst (λ (x : M). Refit (μ x) r.plants s.plants f y e entry.before n) H.method_is refit in (
           record {
-            method_is = method ∙ H.method-is;
+            method_is = method ∙ H.method_is;
             four = refit.long ∙ H.four;
             used_is = used ∙ counted;
             log_is = ap (map logged) left ∙ lines.0 ∙ sym (ap (λ (l : List Act). logged_acts l (closed_acts es)) after);
             log_len =
                 let long : length (undo_log es) ≡ suc (length more) = ap length h in
                 let short : length (undo_log (takes_back ∷ es)) ≡ length more = ap length after in
-                omega (arith, H.log-len, long, short, len);
-            plants_are = refit_lives (μ m) (later m) es (takes_back ∷ es) r.plants s.plants f y e entry.before n entry.year_range.0 entry.year_range.1 events fit H.plants-are d d-is enrolment entry.facility_range.0;
-            known = subst (λ (l : List Act). All (Known (takes_back ∷ es)) (l ++ closed_acts es)) (sym after) (known_on es (takes_back ∷ es) (λ g k. k) (more ++ closed_acts es) known_all.1);
-            no_others = H.no-others;
+                omega (arith, H.log_len, long, short, len);
+            plants_are = refit_lives (μ m) (later m) es (takes_back ∷ es) r.plants s.plants f y e entry.before n entry.year_range.0 entry.year_range.1 events fit H.plants_are d d-is enrolment entry.facility_range.0;
+            known = subst (λ (l : List Act). AllByRecursion (Known (takes_back ∷ es)) (l ++ closed_acts es)) (sym after) (known_on es (takes_back ∷ es) (λ g k. k) (more ++ closed_acts es) known_all.1);
+            no_others = H.no_others;
           },
           counted,
         )

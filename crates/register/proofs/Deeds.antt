@@ -32,21 +32,21 @@ module _ {M : Type 0} (μ : M → Meaning) where
     pub done_holds : (es : List Event) → Holds μ m r es → filing_at old ≡ standing_at es a.facility a.year → (n : ℕ) → Done μ r s a.facility a.year e old v n → Holds μ m s (acts a ∷ es) × (n ≡ numbers es + 1)
     unfolding standing_at
     done_holds es H old-is n D =
-        let number : n ≡ numbers es + 1 = D.number ∙ ap (λ (i : ℕ). i + 1) H.used-is in
+        let number : n ≡ numbers es + 1 = D.number ∙ ap (λ (i : ℕ). i + 1) H.used_is in
         let events₀ : Refills es (acts a ∷ es) a.facility a.year (filing_at v) (numbers es + 1) = subst (λ (o : Option FilingFields). Refills es (acts a ∷ es) a.facility a.year o (numbers es + 1)) (sym v-is) (act_refills es a) in
         let events : Refills es (acts a ∷ es) a.facility a.year (filing_at v) n = subst (λ (i : ℕ). Refills es (acts a ∷ es) a.facility a.year (filing_at v) i) (sym number) events₀ in
-        let fit : Refit (μ m) r.plants s.plants a.facility a.year e v n = subst (λ (x : M). Refit (μ x) r.plants s.plants a.facility a.year e v n) H.method-is D.refit in
+        let fit : Refit (μ m) r.plants s.plants a.facility a.year e v n = subst (λ (x : M). Refit (μ x) r.plants s.plants a.facility a.year e v n) H.method_is D.refit in
         let L : Option FilingFields → List Logged = λ o. record { facility = a.facility; year = a.year; before = o } ∷ [] in (
           record {
-            method_is = D.method ∙ H.method-is;
+            method_is = D.method ∙ H.method_is;
             four = D.refit.long ∙ H.four;
             used_is = D.used ∙ number;
             log_is = D.log ∙ ap (λ (l : List Logged). l ++ L (filing_at old)) H.log_is ∙ ap (λ (o : Option FilingFields). logged_acts (undo_log es) (closed_acts es) ++ L o) old-is;
-            log_len = omega (arith, D.log-len, H.log-len);
-            plants_are = refit_lives (μ m) (later m) es (acts a ∷ es) r.plants s.plants a.facility a.year e v n low high events fit H.plants-are d d-is enrolment f-low;
+            log_len = omega (arith, D.log_len, H.log_len);
+            plants_are = refit_lives (μ m) (later m) es (acts a ∷ es) r.plants s.plants a.facility a.year e v n low high events fit H.plants_are d d-is enrolment f-low;
             known = known_on es (acts a ∷ es) (λ f h. h) (unstruck (acts a ∷ es))
                 (record { is_enrolled = enrolled_yes μ m r es H a.facility f-low f-high d d-is e enrolment; from = low; to = high }, H.known);
-            no_others = H.no-others;
+            no_others = H.no_others;
           },
           number,
         )

@@ -63,7 +63,7 @@ mapped_some view (Some x) = refl
 pub enrolled_as_read : {M : Type 0} (μ : M → Meaning) (m : M) (r : Register M) (es : List Event) → Holds μ m r es → (f : ℕ) → 1 ≤ f → f ≤ 4 → (p : Plant) (b : Bool) → is_some (get_or r.plants (f - 1) p).enrolment ≡ b → is_some (enrolment_of es f) ≡ b
 enrolled_as_read μ m r es H f low high p b is =
     let read : get_or r.plants (f - 1) p ≡ get_or r.plants (f - 1) (get_or r.plants (f - 1) p) = get_or_default r.plants (f - 1) p (get_or r.plants (f - 1) p) (omega (arith, H.four)) in
-    sym (ap is_some (H.plants-are f low high (get_or r.plants (f - 1) p) read).enrolment_is) ∙ mapped_some enrolled (get_or r.plants (f - 1) p).enrolment ∙ is
+    sym (ap is_some (H.plants_are f low high (get_or r.plants (f - 1) p) read).enrolment_is) ∙ mapped_some enrolled (get_or r.plants (f - 1) p).enrolment ∙ is
 
 module _ {M : Type 0} (μ : M → Meaning) (m : M) (r : Register M) (cs : List CallFields) (L : Lived μ m r cs) (f y : ℕ) where
   pub look_unknown : is_some (enrolment_of (accepted cs) f) ≡ false → refused (refusal_told Unknown) ≡ answer_to (μ m) (look_up f y) cs

@@ -1,6 +1,6 @@
 -- Numbers: an assessment bears that of the latest act or take-back on its facility, in its year or an earlier one.
 use Rattle.std.proofs.Common.{◌≡◌, ℕ, zero, suc, ◌+◌, ◌<◌, Bool, true, false, cond, ◌||◌, eqb, leb, List, [], ◌∷◌, ◌++◌, Some, None, sym, refl, ap, ◌∙◌, inl, inr, arith}
-use Rattle.std.specs.List.{AllByRecursion as All}
+use Rattle.std.specs.List.{AllByRecursion}
 use Rattle.std.proofs.ByRecursion.{All-append, All-weaker}
 use Rattle.std.proofs.lemmas.Bool.{cases_Bool, cond-true, cond-false, or_parts, false≢true, and_cases, and_left, and_right, leb-false, ne_eqb}
 use Rattle.filing.specs.Filing.{FilingFields}
@@ -80,11 +80,11 @@ latest_of (e ∷ es) f y h =
 abbrev Away : ℕ → ℕ → Act → Type 0
 Away f y a = on_place (a ∷ []) f y ≡ false
 
-struck_away : (f y n : ℕ) (a : Act) (older : ℕ → List Act) → Away f y a → ((m : ℕ) → All (Away f y) (older m)) → All (Away f y) (struck_or n a older)
+struck_away : (f y n : ℕ) (a : Act) (older : ℕ → List Act) → Away f y a → ((m : ℕ) → AllByRecursion (Away f y) (older m)) → AllByRecursion (Away f y) (struck_or n a older)
 struck_away f y zero a older h all = (h, all zero)
 struck_away f y (suc n) a older h all = all n
 
-open_away : (n : ℕ) (es : List Event) (f y : ℕ) → touched es f y ≡ false → All (Away f y) (open_acts n es)
+open_away : (n : ℕ) (es : List Event) (f y : ℕ) → touched es f y ≡ false → AllByRecursion (Away f y) (open_acts n es)
 open_away n [] f y h = tt
 open_away n (enrols e ∷ es) f y h = open_away n es f y h
 open_away n (acts a ∷ es) f y h =
@@ -93,7 +93,7 @@ open_away n (acts a ∷ es) f y h =
 open_away n (takes_back ∷ es) f y h = open_away (suc n) es f y (or_parts (on_place (undo_log es) f y) (touched es f y) h).1
 open_away n (closes ∷ es) f y h = tt
 
-closed_away : (es : List Event) (f y : ℕ) → touched es f y ≡ false → All (Away f y) (closed_acts es)
+closed_away : (es : List Event) (f y : ℕ) → touched es f y ≡ false → AllByRecursion (Away f y) (closed_acts es)
 closed_away [] f y h = tt
 closed_away (enrols e ∷ es) f y h = closed_away es f y h
 closed_away (acts a ∷ es) f y h = closed_away es f y (or_parts (on_place (a ∷ []) f y) (touched es f y) h).1
@@ -112,7 +112,7 @@ away_just f y a away =
 
 untouched_vacant : (es : List Event) (f y : ℕ) → touched es f y ≡ false → standing_at es f y ≡ None
 untouched_vacant es f y h =
-    let all : All (Away f y) (unstruck es) = All-append (Away f y) (undo_log es) (closed_acts es) (open_away 0 es f y h) (closed_away es f y h) in
+    let all : AllByRecursion (Away f y) (unstruck es) = All-append (Away f y) (undo_log es) (closed_acts es) (open_away 0 es f y h) (closed_away es f y h) in
     none_stands es f y (All-weaker (Away f y) (λ a. on_just f y a ≡ false) (away_just f y) (unstruck es) all)
 
 pub standing_touched : (es : List Event) (f y : ℕ) (x : FilingFields) → standing_at es f y ≡ Some x → touched es f y ≡ true

@@ -1,7 +1,7 @@
 -- What a register holds, as its events say it.
 use Rattle.std.proofs.Common.{◌≡◌, ℕ, ◌-◌, ◌<◌, ◌≤◌, true, false, List, [], ◌∷◌, length, get_or, is_some, Some, None, vec_len, Option, sym, ap, ◌∙◌, arith}
 use Rattle.std.specs.Option.{option_map}
-use Rattle.std.specs.List.{AllByRecursion as All}
+use Rattle.std.specs.List.{AllByRecursion}
 use Rattle.std.proofs.lemmas.List.{length-map, get_or-map}
 use Rattle.std.proofs.lemmas.Bool.{le-leb, lt-leb}
 use Rattle.filing.specs.declared.signed.Signed.{Signed}
@@ -21,7 +21,7 @@ use Rattle.register.proofs.Vacancies.{outside_none}
 use Rattle.register.proofs.Rows.{places_long, place_of}
 
 -- acts that are known stay known where the facilities stay enrolled
-pub known_on : (es ds : List Event) → ((f : ℕ) → is_some (enrolment_of es f) ≡ true → is_some (enrolment_of ds f) ≡ true) → (l : List Act) → All (Known es) l → All (Known ds) l
+pub known_on : (es ds : List Event) → ((f : ℕ) → is_some (enrolment_of es f) ≡ true → is_some (enrolment_of ds f) ≡ true) → (l : List Act) → AllByRecursion (Known es) l → AllByRecursion (Known ds) l
 known_on es ds h [] k = tt
 known_on es ds h (a ∷ l) k =
     (record { is_enrolled = h a.facility k.0.is_enrolled; from = k.0.from; to = k.0.to }, known_on es ds h l k.1)
@@ -33,37 +33,37 @@ module _ {M : Type 0} (μ : M → Meaning) (m : M) (r : Register M) (es : List E
 
   -- the checks on the undo log and the numbers
   pub not_full : vec_len r.log.entries < 32 → (book_full es).0 ≡ false
-  not_full h = lt-leb most_acts (length (undo_log es)) (omega (arith, H.log-len))
+  not_full h = lt-leb most_acts (length (undo_log es)) (omega (arith, H.log_len))
 
   pub is_full : 32 ≤ vec_len r.log.entries → (book_full es).0 ≡ true
-  is_full h = le-leb most_acts (length (undo_log es)) (omega (arith, H.log-len))
+  is_full h = le-leb most_acts (length (undo_log es)) (omega (arith, H.log_len))
 
   pub not_bare : (vec_len r.log.entries ≡ 0 → ⊥) → (bare es).0 ≡ false
-  not_bare h = lt-leb (length (undo_log es)) 0 (omega (arith, H.log-len))
+  not_bare h = lt-leb (length (undo_log es)) 0 (omega (arith, H.log_len))
 
   pub is_bare : vec_len r.log.entries ≡ 0 → (bare es).0 ≡ true
-  is_bare h = le-leb (length (undo_log es)) 0 (omega (arith, H.log-len))
+  is_bare h = le-leb (length (undo_log es)) 0 (omega (arith, H.log_len))
 
   pub not_spent : r.used < 1000000 → (spent es).0 ≡ false
-  not_spent h = lt-leb last_number (numbers es) (omega (arith, H.used-is))
+  not_spent h = lt-leb last_number (numbers es) (omega (arith, H.used_is))
 
   pub is_spent : 1000000 ≤ r.used → (spent es).0 ≡ true
-  is_spent h = le-leb last_number (numbers es) (omega (arith, H.used-is))
+  is_spent h = le-leb last_number (numbers es) (omega (arith, H.used_is))
 
   module _ (f : ℕ) (lo : 1 ≤ f) (hi : f ≤ 4) (d : Plant) (d-is : d ≡ get_or r.plants (f - 1) d) where
     -- the enrolment
     pub enrolled_is : (e : Enrolment) → d.enrolment ≡ Some e → enrolment_of es f ≡ Some (enrolled e)
-    enrolled_is e h = sym (H.plants-are f lo hi d d-is).enrolment_is ∙ ap (option_map enrolled) h
+    enrolled_is e h = sym (H.plants_are f lo hi d d-is).enrolment_is ∙ ap (option_map enrolled) h
 
     pub enrolled_yes : (e : Enrolment) → d.enrolment ≡ Some e → is_some (enrolment_of es f) ≡ true
     enrolled_yes e h = ap is_some (enrolled_is e h)
 
     pub enrolled_no : d.enrolment ≡ None → enrolment_of es f ≡ None
-    enrolled_no h = sym (H.plants-are f lo hi d d-is).enrolment_is ∙ ap (option_map enrolled) h
+    enrolled_no h = sym (H.plants_are f lo hi d d-is).enrolment_is ∙ ap (option_map enrolled) h
 
     -- the filing at a place
     pub place_stands : (y : ℕ) → 2017 ≤ y → y ≤ 2036 → (p : Option Signed) → p ≡ get_or d.places (y - 2017) p → filing_at p ≡ standing_at es f y
     place_stands y low high p p-is =
-        let are = (H.plants-are f lo hi d d-is).places_are in
+        let are = (H.plants_are f lo hi d d-is).places_are in
         let lt : y - 2017 < length d.places = omega (arith, length-map d.places filing_at, ap length are, places_long es f) in
         ap filing_at p-is ∙ sym (get_or-map filing_at d.places (y - 2017) p None lt) ∙ ap (λ (l : Places). get_or l (y - 2017) None) are ∙ place_of es f y None low high

@@ -1,7 +1,7 @@
 -- What a register shows is what its history says.
 use Rattle.std.proofs.Common.{◌≡◌, ℕ, ◌+◌, ◌-◌, ◌≤◌, true, leb, List, get_or, is_some, Some, None, Option, sym, refl, ap, ◌∙◌, subst, inl, inr, arith}
 use Rattle.std.specs.Option.{option_map}
-use Rattle.std.specs.List.{AllByRecursion as All}
+use Rattle.std.specs.List.{AllByRecursion}
 use Rattle.std.proofs.lemmas.List.{get_or_default}
 use Rattle.std.proofs.lemmas.Bool.{and_parts, cases_Bool, cond-true, cond-false, leb-true}
 use Rattle.filing.specs.Emissions.{emissions}
@@ -46,7 +46,7 @@ module _ (meaning : Meaning) (es : List Event) (f y : ℕ) where
   unfolding assessment_at
   assessed_some e x is_enrolled stands = ap (λ (o : Option EnrolmentFields). assessment_of meaning es f y o (standing_at es f y)) is_enrolled ∙ ap (assessment_of meaning es f y (Some e)) stands
 
-  pub assessed_found : All (Known es) (unstruck es) → is_some (assessment_at meaning es f y) ≡ is_some (standing_at es f y)
+  pub assessed_found : AllByRecursion (Known es) (unstruck es) → is_some (assessment_at meaning es f y) ≡ is_some (standing_at es f y)
   assessed_found known =
       elim (none_or_some (standing_at es f y)) [
         | inl vacant ↦ ap is_some (vacant_none vacant) ∙ sym (ap is_some vacant)
@@ -79,7 +79,7 @@ module _ (meaning : Meaning) (es : List Event) (f y : ℕ) where
   assessed_figures a h = figures_of_place (enrolment_of es f) (standing_at es f y) a refl refl h
 
 -- where the same stands and the enrolment is the same, the assessment is, numbers apart
-pub assessed_same : (meaning : Meaning) (es es₀ : List Event) (f y : ℕ) → All (Known es₀) (unstruck es₀) → ((e : EnrolmentFields) → enrolment_of es₀ f ≡ Some e → enrolment_of es f ≡ Some e) → ((z : ℕ) → standing_at es f z ≡ standing_at es₀ f z) → option_map unnumbered (assessment_at meaning es f y) ≡ option_map unnumbered (assessment_at meaning es₀ f y)
+pub assessed_same : (meaning : Meaning) (es es₀ : List Event) (f y : ℕ) → AllByRecursion (Known es₀) (unstruck es₀) → ((e : EnrolmentFields) → enrolment_of es₀ f ≡ Some e → enrolment_of es f ≡ Some e) → ((z : ℕ) → standing_at es f z ≡ standing_at es₀ f z) → option_map unnumbered (assessment_at meaning es f y) ≡ option_map unnumbered (assessment_at meaning es₀ f y)
 assessed_same meaning es es₀ f y known stays same =
     elim (none_or_some (standing_at es₀ f y)) [
       | inl vacant ↦ ap (option_map unnumbered) (vacant_none meaning es f y (same y ∙ vacant) ∙ sym (vacant_none meaning es₀ f y vacant))
@@ -91,9 +91,9 @@ assessed_same meaning es es₀ f y known stays same =
           ∙ sym (ap (option_map unnumbered) (assessed_some meaning es₀ f y e.0 x e.1 stands.1))
     ]
 
-shown_of : (o : Option Enrolment) (a : Option Assessment) (t : Option AssessmentFields) → (o ≡ None → t ≡ None) → option_map assessment_fields a ≡ t → shown_of o a ≡ t
-shown_of None a t h e = sym (h refl)
-shown_of (Some x) a t h e = e
+shown_of_is : (o : Option Enrolment) (a : Option Assessment) (t : Option AssessmentFields) → (o ≡ None → t ≡ None) → option_map assessment_fields a ≡ t → shown_of o a ≡ t
+shown_of_is None a t h e = sym (h refl)
+shown_of_is (Some x) a t h e = e
 
 -- a register shows the assessments of its history
 module _ {M : Type 0} (μ : M → Meaning) (m : M) (r : Register M) (es : List Event) (holds : Holds μ m r es) (f y : ℕ) where
@@ -109,7 +109,7 @@ module _ {M : Type 0} (μ : M → Meaning) (m : M) (r : Register M) (es : List E
             let to : y ≤ 2036 = leb-true y 2036 z.1 in
             let year : 2017 + (y - 2017) ≡ y = omega arith in
             ap (option_map assessment_fields) (cond-true (between 2017 2036 y) (get_or plant.assessed (y - 2017) None) None inside)
-            ∙ (holds.plants-are f low high plant here).assessed_are (y - 2017) (omega arith)
+            ∙ (holds.plants_are f low high plant here).assessed_are (y - 2017) (omega arith)
             ∙ ap (assessment_at (μ m) es f) year
         | inr beyond ↦
             ap (option_map assessment_fields) (cond-false (between 2017 2036 y) (get_or plant.assessed (y - 2017) None) None beyond)
@@ -122,8 +122,8 @@ module _ {M : Type 0} (μ : M → Meaning) (m : M) (r : Register M) (es : List E
       let low : 1 ≤ f = leb-true 1 f g.0 in
       let high : f ≤ 4 = leb-true f 4 g.1 in
       let here : plant ≡ get_or r.plants (f - 1) plant = get_or_default r.plants (f - 1) blank_plant plant (omega (arith, holds.four)) in
-      shown_of plant.enrolment (assessed_at plant.assessed y) (assessment_at (μ m) es f y)
-      (λ none. unenrolled_none (μ m) es f y (sym (holds.plants-are f low high plant here).enrolment_is ∙ ap (option_map enrolled) none))
+      shown_of_is plant.enrolment (assessed_at plant.assessed y) (assessment_at (μ m) es f y)
+      (λ none. unenrolled_none (μ m) es f y (sym (holds.plants_are f low high plant here).enrolment_is ∙ ap (option_map enrolled) none))
       (in_year low high here)
 
   pub shown_is : shown_at r f y ≡ assessment_at (μ m) es f y
@@ -131,5 +131,5 @@ module _ {M : Type 0} (μ : M → Meaning) (m : M) (r : Register M) (es : List E
   shown_is =
       elim (cases_Bool (between 1 4 f)) [
         | inl inside ↦ cond-true (between 1 4 f) (shown_in plant y) None inside ∙ inside_is inside
-        | inr other ↦ cond-false (between 1 4 f) (shown_in plant y) None other ∙ sym (unenrolled_none (μ m) es f y (holds.no-others f other))
+        | inr other ↦ cond-false (between 1 4 f) (shown_in plant y) None other ∙ sym (unenrolled_none (μ m) es f y (holds.no_others f other))
       ]

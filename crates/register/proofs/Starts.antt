@@ -65,16 +65,16 @@ pub close_lived : {M : Type 0} (μ : M → Meaning) (m : M) (r s : Register M) (
 unfolding standing_at number_of
 close_lived μ m r s cs L method plants used items len =
     record {
-      method_is = method ∙ L.method-is;
+      method_is = method ∙ L.method_is;
       four = ap length plants ∙ L.four;
-      used_is = used ∙ L.used-is;
+      used_is = used ∙ L.used_is;
       log_is = ap (map logged) items;
       log_len = len;
       plants_are = λ f lo hi p p-is.
           plant_same (μ m) (accepted cs) (closes ∷ accepted cs) f p (λ z. refl) refl (λ z. refl)
-          (L.plants-are f lo hi p (p-is ∙ ap (λ (l : List Plant). get_or l (f - 1) p) plants));
+          (L.plants_are f lo hi p (p-is ∙ ap (λ (l : List Plant). get_or l (f - 1) p) plants));
       known = known_on (accepted cs) (closes ∷ accepted cs) (λ f h. h) (unstruck (accepted cs)) L.known;
-      no_others = L.no-others;
+      no_others = L.no_others;
     }
 
 some_stays : {X : Type 0} (b : Bool) (v : X) (o : Option X) → is_some o ≡ true → is_some (cond b (Some v) o) ≡ true
@@ -107,7 +107,7 @@ module _ {M : Type 0} (μ : M → Meaning) (m : M) (r s : Register M) (es : List
 
   enrolled_here : PlantLived (μ m) (enrols x ∷ es) x.facility q
   enrolled_here =
-      let was = H.plants-are x.facility lo hi d d-is in
+      let was = H.plants_are x.facility lo hi d d-is in
       record {
         enrolment_is = ap (option_map enrolled) admitted.enrolment ∙ ap Some e-is ∙ sym (cond-true (eqb x.facility x.facility) (Some x) (enrolment_of es x.facility) (eq-eqb x.facility x.facility refl));
         places_are = ap filings admitted.places ∙ was.places_are ∙ places_same es (enrols x ∷ es) x.facility x.facility (enrol_standing x es x.facility);
@@ -121,11 +121,11 @@ module _ {M : Type 0} (μ : M → Meaning) (m : M) (r s : Register M) (es : List
   pub enrol_holds : Holds μ m s (enrols x ∷ es)
   enrol_holds =
       record {
-        method_is = method ∙ H.method-is;
+        method_is = method ∙ H.method_is;
         four = ap length plants ∙ length-set r.plants (x.facility - 1) q ∙ H.four;
-        used_is = used ∙ H.used-is;
+        used_is = used ∙ H.used_is;
         log_is = ap (λ l. map logged (vec_items l.entries)) log ∙ H.log_is;
-        log_len = ap (λ l. vec_len l.entries) log ∙ H.log-len;
+        log_len = ap (λ l. vec_len l.entries) log ∙ H.log_len;
         plants_are = λ g g-lo g-hi p p-is.
             let p-set : p ≡ get_or (set r.plants (x.facility - 1) q) (g - 1) p = p-is ∙ ap (λ (l : List Plant). get_or l (g - 1) p) plants in
             ⊎_elim
@@ -136,7 +136,7 @@ module _ {M : Type 0} (μ : M → Meaning) (m : M) (r s : Register M) (es : List
             (λ (ne : g ≢ x.facility).
             let apart : g - 1 ≢ x.facility - 1 = omega arith in
             plant_same (μ m) es (enrols x ∷ es) g p (enrol_standing x es g) (off g ne) (enrol_number x es g)
-            (H.plants-are g g-lo g-hi p (p-set ∙ get_or-set_other r.plants (x.facility - 1) (g - 1) q p apart)))
+            (H.plants_are g g-lo g-hi p (p-set ∙ get_or-set_other r.plants (x.facility - 1) (g - 1) q p apart)))
             (cases_eq g x.facility);
         known = known_on es (enrols x ∷ es) (λ f h. some_stays (eqb x.facility f) x (enrolment_of es f) h) (unstruck es) H.known;
         no_others = λ g out.
@@ -144,6 +144,6 @@ module _ {M : Type 0} (μ : M → Meaning) (m : M) (r s : Register M) (es : List
             (λ (eq : g ≡ x.facility).
             let inside : between 1 4 x.facility ≡ true = and_from (leb 1 x.facility) (leb x.facility 4) (le-leb 1 x.facility lo) (le-leb x.facility 4 hi) in
             absurd (true≢false (sym inside ∙ sym (ap (between 1 4) eq) ∙ out)))
-            (λ (ne : g ≢ x.facility). sym (off g ne) ∙ H.no-others g out)
+            (λ (ne : g ≢ x.facility). sym (off g ne) ∙ H.no_others g out)
             (cases_eq g x.facility);
       }

@@ -1,6 +1,6 @@
 -- Where nothing stands: where no unstruck act is.
 use Rattle.std.proofs.Common.{◌≡◌, ℕ, ◌≤◌, Bool, true, false, ◌&&◌, eqb, leb, List, [], ◌∷◌, is_some, Some, None, sym, refl, ap, ◌∙◌, inl, inr, arith}
-use Rattle.std.specs.List.{AllByRecursion as All}
+use Rattle.std.specs.List.{AllByRecursion}
 use Rattle.std.proofs.ByRecursion.{All-weaker}
 use Rattle.std.proofs.lemmas.Bool.{and_left, and_right, cases_Bool, cond-false, false≢true, le-leb, ne_eqb, and_from}
 use Rattle.filing.specs.Filing.{FilingFields}
@@ -15,11 +15,11 @@ use Rattle.register.proofs.Options.{none_some}
 abbrev pub on_just : ℕ → ℕ → Act → Bool
 on_just f y a = eqb a.facility f && eqb a.year y
 
-left_none : (ds : List Act) (f y : ℕ) → All (λ a. on_just f y a ≡ false) ds → left_by ds f y ≡ None
+left_none : (ds : List Act) (f y : ℕ) → AllByRecursion (λ a. on_just f y a ≡ false) ds → left_by ds f y ≡ None
 left_none [] f y h = refl
 left_none (a ∷ ds) f y h = cond-false (on_just f y a) a.leaves (left_by ds f y) h.0 ∙ left_none ds f y h.1
 
-pub none_stands : (es : List Event) (f y : ℕ) → All (λ a. on_just f y a ≡ false) (unstruck es) → standing_at es f y ≡ None
+pub none_stands : (es : List Event) (f y : ℕ) → AllByRecursion (λ a. on_just f y a ≡ false) (unstruck es) → standing_at es f y ≡ None
 unfolding standing_at
 none_stands es f y h = left_none (unstruck es) f y h
 
@@ -33,7 +33,7 @@ year_inside es a y k same =
 year_away : (es : List Event) (f y : ℕ) → between 2017 2036 y ≡ false → (a : Act) → Known es a → on_just f y a ≡ false
 year_away es f y out a k = and_right (eqb a.facility f) (eqb a.year y) (ne_eqb a.year y (λ same. false≢true (sym out ∙ year_inside es a y k same)))
 
-pub outside_none : (es : List Event) (f y : ℕ) → All (Known es) (unstruck es) → between 2017 2036 y ≡ false → standing_at es f y ≡ None
+pub outside_none : (es : List Event) (f y : ℕ) → AllByRecursion (Known es) (unstruck es) → between 2017 2036 y ≡ false → standing_at es f y ≡ None
 outside_none es f y known out = none_stands es f y (All-weaker (Known es) (λ a. on_just f y a ≡ false) (year_away es f y out) (unstruck es) known)
 
 -- nothing stands at a facility that is not enrolled
@@ -42,10 +42,10 @@ facility_away es f y lacks a k =
     and_left (eqb a.facility f) (eqb a.year y)
     (ne_eqb a.facility f (λ same. false≢true (sym lacks ∙ sym (ap (λ (g : ℕ). is_some (enrolment_of es g)) same) ∙ k.is_enrolled)))
 
-pub unenrolled_vacant : (es : List Event) (f y : ℕ) → All (Known es) (unstruck es) → is_some (enrolment_of es f) ≡ false → standing_at es f y ≡ None
+pub unenrolled_vacant : (es : List Event) (f y : ℕ) → AllByRecursion (Known es) (unstruck es) → is_some (enrolment_of es f) ≡ false → standing_at es f y ≡ None
 unenrolled_vacant es f y known lacks = none_stands es f y (All-weaker (Known es) (λ a. on_just f y a ≡ false) (facility_away es f y lacks) (unstruck es) known)
 
-pub standing_enrolled : (es : List Event) (f y : ℕ) (x : FilingFields) → All (Known es) (unstruck es) → standing_at es f y ≡ Some x → is_some (enrolment_of es f) ≡ true
+pub standing_enrolled : (es : List Event) (f y : ℕ) (x : FilingFields) → AllByRecursion (Known es) (unstruck es) → standing_at es f y ≡ Some x → is_some (enrolment_of es f) ≡ true
 standing_enrolled es f y x known stands =
     elim (cases_Bool (is_some (enrolment_of es f))) [
       | inl is ↦ is

@@ -1,7 +1,7 @@
 -- A register that has lived a history holds what the history says.
 use Rattle.std.specs.Prelude.{◌≡◌, ℕ, ◌+◌, ◌-◌, ◌<◌, ◌≤◌, true, false, List, [], ◌∷◌, ◌++◌, map, length, is_some, None, vec_items, vec_len, slice_index_or}
 use Rattle.std.specs.Option.{option_map}
-use Rattle.std.specs.List.{AllByRecursion as All}
+use Rattle.std.specs.List.{AllByRecursion}
 use Rattle.enrolment.specs.Ranges.{between}
 use Rattle.enrolment.specs.Views.{enrolled}
 use Rattle.limit.specs.Laws.{Meaning}
@@ -45,7 +45,7 @@ module _ {M : Type 0} (μ : M → Meaning) where
     pub log_is : map logged (vec_items r.log.entries) ≡ logged_acts (undo_log es) (closed_acts es)
     pub log_len : vec_len r.log.entries ≡ length (undo_log es)
     pub plants_are : PlantsLived (μ m) es r.plants
-    pub known : All (Known es) (unstruck es)
+    pub known : AllByRecursion (Known es) (unstruck es)
     pub no_others : (f : ℕ) → between 1 4 f ≡ false → enrolment_of es f ≡ None
 
   abbrev pub Lived : M → Register M → List CallFields → Type 0

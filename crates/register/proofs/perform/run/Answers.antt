@@ -14,7 +14,7 @@ pub loop-call-init : goal.loop-call-init
 loop-call-init g c =
     let r = c.in_ok-register.register in
     let L = c.in_ok-register.ensures in (
-      laws_of g.M.LimitMethod.meaning r.method [] r (subst (λ m. Lived g.M.LimitMethod.meaning m r []) (sym L.method-is) L),
+      laws_of g.M.LimitMethod.meaning r.method [] r (subst (λ m. Lived g.M.LimitMethod.meaning m r []) (sym L.method_is) L),
       search rules,
       search rules,
       λ k x a lt. absurd (omega arith),
@@ -41,7 +41,7 @@ loop-call-preserved g c =
 pub returns : goal.returns
 returns g c =
     let r = c.in_ok-register.register in
-    let is = c.in_ok-register.ensures.method-is in
+    let is = c.in_ok-register.ensures.method_is in
     let xs = c.args.calls.now in
     let i = c.loop-call.call-index in
     let all : c.loop-call.call-index ≡ length c.args.calls.now = omega (arith, c.loop-call.auto.call-index-end, c.loop-call-test.false) in

@@ -11,7 +11,7 @@ returns-then-facility-lt1 g c =
     let out = outside 1 4 f c.then-facility-lt1.either in
     record {
       shows = shown_outside c.args.self.now f c.args.year out;
-      answers = λ m cs L. look_unknown g.M.LimitMethod.meaning m c.args.self.now cs L f c.args.year (ap is_some (L.no-others f out));
+      answers = λ m cs L. look_unknown g.M.LimitMethod.meaning m c.args.self.now cs L f c.args.year (ap is_some (L.no_others f out));
     }
 
 pub returns-then-is_none : goal.returns-then-is_none
