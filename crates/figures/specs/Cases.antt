@@ -59,12 +59,12 @@ standard_figure (Err c) = refused (cause_number c) 0
 
 abbrev pub outcome_figure : outcome.Told → Figure
 outcome_figure (outcome.limit n) = is n
-outcome_figure (outcome.noLimit c) = no_limit c
+outcome_figure (outcome.no_limit c) = no_limit c
 outcome_figure (outcome.fault c l) = refused c l
 
 abbrev pub has_limit : outcome.Told → Bool
 has_limit (outcome.limit n) = true
-has_limit (outcome.noLimit c) = false
+has_limit (outcome.no_limit c) = false
 has_limit (outcome.fault c l) = false
 
 abbrev pub by_kind : EnrolmentFields → Places → ℕ → outcome.Told
@@ -76,7 +76,7 @@ year_figure None = no_limit 0
 
 abbrev pub bearing : outcome.Told → ℕ → Figure
 bearing (outcome.limit n) number = bears n number
-bearing (outcome.noLimit c) number = no_limit c
+bearing (outcome.no_limit c) number = no_limit c
 bearing (outcome.fault c l) number = refused c l
 
 abbrev pub assessed_figure : Option AssessmentFields → Figure
