@@ -1,0 +1,42 @@
+//! Why a record is not filed: the fault of the reader or the refusal of the register, whole.
+ghost use Rattle.std.specs.Prelude.{◌≡◌};
+ghost use Rattle.engine.specs.Faults.{engine_told};
+ghost use Rattle.engine.specs.declared.faults.EngineFault.TheVariants.{Read as ReadVariant, Register as RegisterVariant};
+
+use codec::faults::ReadFault;
+use register::refusals::Refusal;
+
+/// The fault of the layer that refused.
+#[derive(Clone, Copy)]
+pub enum EngineFault {
+    Read(ReadFault),
+    Register(Refusal),
+}
+
+impl From<ReadFault> for EngineFault {
+    ghost from_gives = { λ e r. r ≡ ReadVariant e };
+
+    fn from(fault: ReadFault) -> EngineFault {
+        EngineFault::Read(fault)
+    }
+}
+
+impl From<Refusal> for EngineFault {
+    ghost from_gives = { λ e r. r ≡ RegisterVariant e };
+
+    fn from(refusal: Refusal) -> EngineFault {
+        EngineFault::Register(refusal)
+    }
+}
+
+impl EngineFault {
+    /// The number by which the refusal goes.
+    pub fn number(&self) -> u64
+        ensures { result ≡ (engine_told self.now).number }
+    {
+        match self {
+            EngineFault::Read(fault) => fault.number(),
+            EngineFault::Register(refusal) => refusal.number(),
+        }
+    }
+}
