@@ -5,7 +5,7 @@ ghost use Rattle.enrolment.specs.Told.{enrolment_told, enrolment_printed};
 use std::fmt;
 
 /// The refusal of an enrolment.
-#[derive(Clone, Copy)]
+#[derive(Clone, Copy, Debug, PartialEq, Eq)]
 pub enum EnrolmentFault {
     /// A field is outside its range.
     Outside,

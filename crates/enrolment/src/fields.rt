@@ -1,7 +1,7 @@
 //! The fields of an enrolment as they are handed in: bare numbers, of which nothing is known yet.
 
 /// An enrolment's six fields.
-#[derive(Clone, Copy)]
+#[derive(Clone, Copy, Debug, PartialEq, Eq)]
 pub struct EnrolmentFields {
     pub facility: u64,
     /// 1 industrial, 2 station.

@@ -1,16 +1,18 @@
 //! The kinds of enrolment, and the choices of reference years.
 ghost use Rattle.std.specs.Prelude.{◌≡◌};
-ghost use Rattle.enrolment.specs.Kinds.{enrolment_kind_number, enrolment_kind_of, choice_number, choice_of};
+ghost use Rattle.enrolment.specs.Kinds.{enrolment_kind_number, choice_number, DecodesKind, DecodesChoice};
+
+use crate::faults::EnrolmentFault;
 
 /// What kind of facility is enrolled.
-#[derive(Clone, Copy)]
+#[derive(Clone, Copy, Debug, PartialEq, Eq)]
 pub enum EnrolmentKind {
     Industrial = 1,
     Station = 2,
 }
 
 /// Which years a calculated standard is worked out from.
-#[derive(Clone, Copy)]
+#[derive(Clone, Copy, Debug, PartialEq, Eq)]
 pub enum Choice {
     /// Those of 2017 and 2018 that qualify.
     Fixed = 1,
@@ -20,50 +22,51 @@ pub enum Choice {
     BeforeBase = 3,
 }
 
-impl EnrolmentKind {
-    /// The number that stands for the kind.
-    pub fn number(self) -> u64
-        ensures { result ≡ enrolment_kind_number self }
-    {
-        match self {
-            EnrolmentKind::Industrial => 1,
-            EnrolmentKind::Station => 2,
-        }
-    }
+/// The number that stands for a kind.
+impl From<EnrolmentKind> for u64 {
+    ghost from_gives = { λ kind n. n ≡ enrolment_kind_number kind };
 
-    /// The kind that a number stands for.
-    pub fn of_number(number: u64) -> Option<EnrolmentKind>
-        ensures { result ≡ enrolment_kind_of number }
-    {
+    fn from(kind: EnrolmentKind) -> u64 {
+        kind as u64
+    }
+}
+
+/// The kind that a number stands for.
+impl TryFrom<u64> for EnrolmentKind {
+    type Error = EnrolmentFault;
+
+    ghost try_from_gives = { DecodesKind };
+
+    fn try_from(number: u64) -> Result<EnrolmentKind, EnrolmentFault> {
         match number {
-            1 => Some(EnrolmentKind::Industrial),
-            2 => Some(EnrolmentKind::Station),
-            _ => None,
+            1 => Ok(EnrolmentKind::Industrial),
+            2 => Ok(EnrolmentKind::Station),
+            _ => Err(EnrolmentFault::Outside),
         }
     }
 }
 
-impl Choice {
-    /// The number that stands for the choice.
-    pub fn number(self) -> u64
-        ensures { result ≡ choice_number self }
-    {
-        match self {
-            Choice::Fixed => 1,
-            Choice::Base => 2,
-            Choice::BeforeBase => 3,
-        }
-    }
+/// The number that stands for a choice.
+impl From<Choice> for u64 {
+    ghost from_gives = { λ choice n. n ≡ choice_number choice };
 
-    /// The choice that a number stands for.
-    pub fn of_number(number: u64) -> Option<Choice>
-        ensures { result ≡ choice_of number }
-    {
+    fn from(choice: Choice) -> u64 {
+        choice as u64
+    }
+}
+
+/// The choice that a number stands for.
+impl TryFrom<u64> for Choice {
+    type Error = EnrolmentFault;
+
+    ghost try_from_gives = { DecodesChoice };
+
+    fn try_from(number: u64) -> Result<Choice, EnrolmentFault> {
         match number {
-            1 => Some(Choice::Fixed),
-            2 => Some(Choice::Base),
-            3 => Some(Choice::BeforeBase),
-            _ => None,
+            1 => Ok(Choice::Fixed),
+            2 => Ok(Choice::Base),
+            3 => Ok(Choice::BeforeBase),
+            _ => Err(EnrolmentFault::Outside),
         }
     }
 }

@@ -21,12 +21,8 @@ impl Enrolment {
     pub fn new(fields: EnrolmentFields) -> Result<Enrolment, EnrolmentFault>
         ensures { Enrols fields result }
     {
-        let Some(kind) = EnrolmentKind::of_number(fields.kind) else {
-            return Err(EnrolmentFault::Outside);
-        };
-        let Some(choice) = Choice::of_number(fields.choice) else {
-            return Err(EnrolmentFault::Outside);
-        };
+        let kind = EnrolmentKind::try_from(fields.kind)?;
+        let choice = Choice::try_from(fields.choice)?;
         if !is_between(1, 4, fields.facility)
             || !is_between(1900, 2036, fields.year)
             || !is_between(1, days_in(fields.year), fields.day)
@@ -51,10 +47,10 @@ impl Enrolment {
     {
         EnrolmentFields {
             facility: u64::from(self.facility),
-            kind: self.kind.number(),
+            kind: u64::from(self.kind),
             year: u64::from(self.year),
             day: u64::from(self.day),
-            choice: self.choice.number(),
+            choice: u64::from(self.choice),
             factor: u64::from(self.factor),
         }
     }

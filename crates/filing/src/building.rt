@@ -69,7 +69,7 @@ impl Filing {
             return Err(FilingFault::Lines);
         }
         let place = self.count + 1;
-        let Some(kind) = LineKind::of_number(fields.kind) else {
+        let Ok(kind) = LineKind::try_from(fields.kind) else {
             return Err(FilingFault::Kind { line: place });
         };
         let line = Line::checked(kind, fields, place)?;

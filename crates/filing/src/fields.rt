@@ -1,7 +1,7 @@
 //! The fields of a filing as they are handed in: bare numbers, of which nothing is known yet.
 
 /// The head of a filing, in the order of the field codes 1 to 7. Gases are in kilograms.
-#[derive(Clone, Copy)]
+#[derive(Clone, Copy, Debug, PartialEq, Eq)]
 pub struct HeadFields {
     pub facility: u64,
     pub year: u64,
@@ -13,7 +13,7 @@ pub struct HeadFields {
 }
 
 /// One line of a filing, in the order of the field codes 21 to 27.
-#[derive(Clone, Copy)]
+#[derive(Clone, Copy, Debug, PartialEq, Eq)]
 pub struct LineFields {
     pub kind: u64,
     pub number: u64,

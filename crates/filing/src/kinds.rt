@@ -1,9 +1,9 @@
 //! The kinds of a filing's line.
 ghost use Rattle.std.specs.Prelude.{◌≡◌};
-ghost use Rattle.filing.specs.Kinds.{kind_number, kind_of};
+ghost use Rattle.filing.specs.Kinds.{kind_number, Decodes};
 
 /// Where a line's output-based standard comes from.
-#[derive(Clone, Copy)]
+#[derive(Clone, Copy, Debug, PartialEq, Eq)]
 pub enum LineKind {
     /// The standard is a number that the line states.
     Numerical = 1,
@@ -13,27 +13,31 @@ pub enum LineKind {
     Gaseous = 3,
 }
 
-impl LineKind {
-    /// The number that stands for the kind in field 21.
-    pub fn number(self) -> u64
-        ensures { result ≡ kind_number self }
-    {
-        match self {
-            LineKind::Numerical => 1,
-            LineKind::Calculated => 2,
-            LineKind::Gaseous => 3,
-        }
-    }
+/// A number that stands for no kind.
+#[derive(Clone, Copy, Debug, PartialEq, Eq)]
+pub struct UnknownKind(pub u64);
 
-    /// The kind that a number stands for.
-    pub fn of_number(number: u64) -> Option<LineKind>
-        ensures { result ≡ kind_of number }
-    {
+/// The number that stands for a kind in field 21.
+impl From<LineKind> for u64 {
+    ghost from_gives = { λ kind n. n ≡ kind_number kind };
+
+    fn from(kind: LineKind) -> u64 {
+        kind as u64
+    }
+}
+
+/// The kind that a number stands for.
+impl TryFrom<u64> for LineKind {
+    type Error = UnknownKind;
+
+    ghost try_from_gives = { Decodes };
+
+    fn try_from(number: u64) -> Result<LineKind, UnknownKind> {
         match number {
-            1 => Some(LineKind::Numerical),
-            2 => Some(LineKind::Calculated),
-            3 => Some(LineKind::Gaseous),
-            _ => None,
+            1 => Ok(LineKind::Numerical),
+            2 => Ok(LineKind::Calculated),
+            3 => Ok(LineKind::Gaseous),
+            _ => Err(UnknownKind(number)),
         }
     }
 }

@@ -10,7 +10,7 @@ use crate::ranges::{first_outside, head_ranges, line_ranges};
 use quantity::units::{Kilograms, Megawatts, Production, Standard};
 
 /// Who files for which year, and what was emitted and captured.
-#[derive(Clone, Copy)]
+#[derive(Clone, Copy, Debug, PartialEq, Eq)]
 pub struct Head {
     pub facility: u8,
     pub year: u16,
@@ -22,7 +22,7 @@ pub struct Head {
 }
 
 /// One activity or unit: what it made, and what is said of it.
-#[derive(Clone, Copy)]
+#[derive(Clone, Copy, Debug, PartialEq, Eq)]
 pub struct Line {
     pub kind: LineKind,
     pub number: u16,
@@ -87,7 +87,7 @@ impl Line {
         ensures { result ≡ line_fields self.now }
     {
         LineFields {
-            kind: self.kind.number(),
+            kind: u64::from(self.kind),
             number: u64::from(self.number),
             production: self.production.thousandths,
             standard: self.standard.ten_thousandths,

@@ -21,7 +21,7 @@ pub(crate) fn total_kg(head: &Head) -> u64
 fn alike(line: &Line, fields: &LineFields) -> bool
     ensures { result ≡ same fields.now (line_fields line.now) }
 {
-    fields.kind == line.kind.number() && fields.number == u64::from(line.number)
+    fields.kind == u64::from(line.kind) && fields.number == u64::from(line.number)
 }
 
 /// Whether some line has the kind and number of `fields`.

@@ -1,4 +1,4 @@
-use Rattle.std.proofs.Common.{true, false, sym, ap, arith}
+use Rattle.std.proofs.Common.{true, false, ap, arith}
 use Rattle.std.proofs.lemmas.Result.{err_from_is_err_and}
 use Rattle.filing.specs.Filing.{attributed_sum}
 use Rattle.filing.specs.Views.{fields_of}
@@ -14,32 +14,32 @@ returns-then-self-ge-MOST_LINES c =
 pub returns-in_default : goal.returns-in_default
 returns-in_default c =
     let s = c.args.self.now in
-    refused_kind (fields_of s) c.args.fields s.count (count_is s) c.if-self-ge-MOST_LINES.false (sym c.in_default.ensures)
+    refused_kind (fields_of s) c.args.fields s.count (count_is s) c.if-self-ge-MOST_LINES.false c.in_default.ensures.0
 
 pub returns-in_err-line : goal.returns-in_err-line
 returns-in_err-line c =
     let s = c.args.self.now in
-    let o = opened s c.args.fields c.in-Some.kind c.if-self-ge-MOST_LINES.false (sym c.in-Some.ensures) in
+    let o = opened s c.args.fields c.in-Ok.kind c.if-self-ge-MOST_LINES.false c.in-Ok.ensures in
     let p = err_from_is_err_and c.from_residual.result c.from_residual.ensures.1 in
-    rw (p.1, p.2) (refused_range (fields_of s) c.args.fields s.count c.in-Some.kind _ o c.in_err-line.ensures)
+    rw (p.1, p.2) (refused_range (fields_of s) c.args.fields s.count c.in-Ok.kind _ o c.in_err-line.ensures)
 
 pub returns-then-holds : goal.returns-then-holds
 returns-then-holds c =
     let s = c.args.self.now in
-    let o = opened s c.args.fields c.in-Some.kind c.if-self-ge-MOST_LINES.false (sym c.in-Some.ensures) in
+    let o = opened s c.args.fields c.in-Ok.kind c.if-self-ge-MOST_LINES.false c.in-Ok.ensures in
     let h = held s c.args.fields c.lines-earlier.result.now true c.lines-earlier.ensures.fields c.if-holds.ensures in
-    refused_twice (fields_of s) c.args.fields s.count c.in-Some.kind o c.in_ok-line.ensures.1 h
+    refused_twice (fields_of s) c.args.fields s.count c.in-Ok.kind o c.in_ok-line.ensures.1 h
 
 pub returns-then-total_kg-attributed_kg : goal.returns-then-total_kg-attributed_kg
 returns-then-total_kg-attributed_kg c =
     let s = c.args.self.now in
-    let o = opened s c.args.fields c.in-Some.kind c.if-self-ge-MOST_LINES.false (sym c.in-Some.ensures) in
+    let o = opened s c.args.fields c.in-Ok.kind c.if-self-ge-MOST_LINES.false c.in-Ok.ensures in
     let h = held s c.args.fields c.lines-earlier.result.now false c.lines-earlier.ensures.fields c.if-holds.ensures in
-    refused_above (fields_of s) c.args.fields s.count c.in-Some.kind o c.in_ok-line.ensures.1 h (omega (arith, ap attributed_sum c.lines-earlier.ensures.fields, c.attributed_kg.ensures.value, c.total_kg.ensures.value, ap (λ l. l.attributed) c.in_ok-line.ensures.0))
+    refused_above (fields_of s) c.args.fields s.count c.in-Ok.kind o c.in_ok-line.ensures.1 h (omega (arith, ap attributed_sum c.lines-earlier.ensures.fields, c.attributed_kg.ensures.value, c.total_kg.ensures.value, ap (λ l. l.attributed) c.in_ok-line.ensures.0))
 
 pub returns : goal.returns
 returns c =
     let s = c.args.self.now in
-    let o = opened s c.args.fields c.in-Some.kind c.if-self-ge-MOST_LINES.false (sym c.in-Some.ensures) in
+    let o = opened s c.args.fields c.in-Ok.kind c.if-self-ge-MOST_LINES.false c.in-Ok.ensures in
     let h = held s c.args.fields c.lines-earlier.result.now false c.lines-earlier.ensures.fields c.if-holds.ensures in
-    (c.in_ok-line.ensures.0, refused_none (fields_of s) c.args.fields s.count c.in-Some.kind o c.in_ok-line.ensures.1 h (omega (arith, ap attributed_sum c.lines-earlier.ensures.fields, c.attributed_kg.ensures.value, c.total_kg.ensures.value, ap (λ l. l.attributed) c.in_ok-line.ensures.0)))
+    (c.in_ok-line.ensures.0, refused_none (fields_of s) c.args.fields s.count c.in-Ok.kind o c.in_ok-line.ensures.1 h (omega (arith, ap attributed_sum c.lines-earlier.ensures.fields, c.attributed_kg.ensures.value, c.total_kg.ensures.value, ap (λ l. l.attributed) c.in_ok-line.ensures.0)))
