@@ -16,6 +16,22 @@ fn is_between(least: u64, most: u64, n: u64) -> bool
     least <= n && n <= most
 }
 
+/// The enrolment as bare numbers.
+impl From<Enrolment> for EnrolmentFields {
+    ghost from_gives = { λ enrolment fields. (fields ≡ enrolled enrolment) × Lawful fields };
+
+    fn from(enrolment: Enrolment) -> EnrolmentFields {
+        EnrolmentFields {
+            facility: u64::from(enrolment.facility),
+            kind: u64::from(enrolment.kind),
+            year: u64::from(enrolment.year),
+            day: u64::from(enrolment.day),
+            choice: u64::from(enrolment.choice),
+            factor: u64::from(enrolment.factor),
+        }
+    }
+}
+
 impl Enrolment {
     /// The enrolment of these fields, refused where one is outside its range.
     pub fn new(fields: EnrolmentFields) -> Result<Enrolment, EnrolmentFault>
@@ -38,21 +54,6 @@ impl Enrolment {
             choice,
             factor: fields.factor as u8,
         })
-    }
-
-    /// The enrolment as bare numbers.
-    pub fn fields(&self) -> EnrolmentFields
-        ensures value { result ≡ enrolled self.now }
-        ensures lawful { Lawful result }
-    {
-        EnrolmentFields {
-            facility: u64::from(self.facility),
-            kind: u64::from(self.kind),
-            year: u64::from(self.year),
-            day: u64::from(self.day),
-            choice: u64::from(self.choice),
-            factor: u64::from(self.factor),
-        }
     }
 
     /// The first calendar year that begins on or after first production.

@@ -34,22 +34,41 @@ pub struct Line {
     pub ratio: u16,
 }
 
-impl Head {
-    /// The head as bare numbers.
-    pub fn fields(&self) -> HeadFields
-        ensures { result ≡ head_fields self.now }
-    {
+/// The head as bare numbers.
+impl From<Head> for HeadFields {
+    ghost from_gives = { λ head fields. fields ≡ head_fields head };
+
+    fn from(head: Head) -> HeadFields {
         HeadFields {
-            facility: u64::from(self.facility),
-            year: u64::from(self.year),
-            co2: self.co2.kg,
-            ch4: self.ch4.kg,
-            n2o: self.n2o.kg,
-            sf6: self.sf6.kg,
-            captured: self.captured.kg,
+            facility: u64::from(head.facility),
+            year: u64::from(head.year),
+            co2: head.co2.kg,
+            ch4: head.ch4.kg,
+            n2o: head.n2o.kg,
+            sf6: head.sf6.kg,
+            captured: head.captured.kg,
         }
     }
+}
 
+/// The line as bare numbers.
+impl From<Line> for LineFields {
+    ghost from_gives = { λ line fields. fields ≡ line_fields line };
+
+    fn from(line: Line) -> LineFields {
+        LineFields {
+            kind: u64::from(line.kind),
+            number: u64::from(line.number),
+            production: line.production.thousandths,
+            standard: line.standard.ten_thousandths,
+            attributed: line.attributed.kg,
+            added: line.added.mw,
+            ratio: u64::from(line.ratio),
+        }
+    }
+}
+
+impl Head {
     /// The head with these fields, if each is in its range.
     pub(crate) fn checked(fields: HeadFields) -> Result<Head, FilingFault>
         ensures { HeadMade fields result }
@@ -82,21 +101,6 @@ impl Head {
 }
 
 impl Line {
-    /// The line as bare numbers.
-    pub fn fields(&self) -> LineFields
-        ensures { result ≡ line_fields self.now }
-    {
-        LineFields {
-            kind: u64::from(self.kind),
-            number: u64::from(self.number),
-            production: self.production.thousandths,
-            standard: self.standard.ten_thousandths,
-            attributed: self.attributed.kg,
-            added: self.added.mw,
-            ratio: u64::from(self.ratio),
-        }
-    }
-
     /// The line with these fields after its kind, if each is in its range; `place` is where it would stand.
     pub(crate) fn checked(
         kind: LineKind,
