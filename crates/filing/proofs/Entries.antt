@@ -1,7 +1,8 @@
--- The lines of a filing as plain numbers: the steps of the loops over them.
-use Rattle.std.proofs.Common.{◌≡◌, ℕ, ◌+◌, ◌<◌, ◌≤◌, Bool, false, ◌||◌, List, map, length, get_or, take, drop, sym, ap, ◌∙◌}
-use Rattle.std.proofs.lemmas.List.{at_drop_more, at_drop_all, take_all, length-map, length-take-le, map_more}
-use Rattle.std.proofs.lemmas.List.Sums.{sum_by_push}
+-- The lines of a filing as plain numbers: what the chains over them give.
+use Rattle.std.proofs.Common.{◌≡◌, ℕ, ◌*◌, ◌≤◌, ◌||◌, List, [], ◌∷◌, map, length, take, refl, ap, ◌∙◌, arith}
+use Rattle.std.specs.List.{list_any}
+use Rattle.std.proofs.lemmas.List.{length-map, length-take-le}
+use Rattle.std.proofs.lemmas.List.Sums.{sum_by-cons}
 use Rattle.filing.specs.Filing.{same, among, attributed_sum}
 use Rattle.filing.specs.Parts.{line_fields, entered}
 use Rattle.filing.specs.declared.fields.LineFields.{LineFields}
@@ -10,26 +11,10 @@ use Rattle.filing.specs.declared.parts.Line.{Line}
 pub entered_length : (ls : List Line) (n : ℕ) → n ≤ length ls → length (entered ls n) ≡ n
 entered_length ls n h = length-map (take n ls) line_fields ∙ length-take-le n ls h
 
--- the line l stands at the place i
-pub record At (ls : List Line) (i : ℕ) (l : Line) : Type 0 where
-  pub below : i < length ls
-  pub is : l ≡ get_or ls i l
+pub among_any : (f : LineFields) (ls : List Line) → list_any (λ l. same f (line_fields l)) ls ≡ among f (map line_fields ls)
+among_any f [] = refl
+among_any f (l ∷ ls) = ap (λ b. same f (line_fields l) || b) (among_any f ls)
 
--- what the line at i says, and what is left after it, say what all lines do
-pub among_more : (f : LineFields) (ls : List Line) (i : ℕ) (l : Line) (b : Bool) → At ls i l → among f (map line_fields (drop i ls)) ≡ among f (map line_fields ls) → b ≡ same f (line_fields l) → (b || among f (map line_fields (drop (i + 1) ls))) ≡ among f (map line_fields ls)
-among_more f ls i l b at left here =
-    ap (λ x. x || among f (map line_fields (drop (i + 1) ls))) (here ∙ ap (λ m. same f (line_fields m)) at.is)
-    ∙ sym (at_drop_more (λ ms. among f (map line_fields ms)) ls i l at.below)
-    ∙ left
-
-pub among_all : (f : LineFields) (ls : List Line) (i : ℕ) → length ls ≤ i → among f (map line_fields (drop i ls)) ≡ false
-among_all f ls i h = at_drop_all (λ ms. among f (map line_fields ms)) ls i h
-
-pub attributed_more : (ls : List Line) (i : ℕ) (l : Line) → At ls i l → attributed_sum (entered ls (i + 1)) ≡ attributed_sum (entered ls i) + l.attributed.kg
-attributed_more ls i l at =
-    ap attributed_sum (map_more line_fields ls i l at.below)
-    ∙ sum_by_push (λ (m : LineFields). m.attributed) (entered ls i) (line_fields (get_or ls i l))
-    ∙ ap (λ m. attributed_sum (entered ls i) + m.attributed.kg) (sym at.is)
-
-pub entered_all : (ls : List Line) (i : ℕ) → length ls ≤ i → entered ls i ≡ map line_fields ls
-entered_all ls i h = ap (map line_fields) (take_all i ls h)
+pub attributed_bound : (ls : List Line) → attributed_sum (map line_fields ls) ≤ 200000000000 * length ls
+attributed_bound [] = omega arith
+attributed_bound (l ∷ ls) = omega (arith, sum_by-cons (λ (m : LineFields). m.attributed) (line_fields l) (map line_fields ls), attributed_bound ls, l.attributed.range)

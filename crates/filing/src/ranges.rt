@@ -1,6 +1,7 @@
 //! The ranges of the fields, in the order of their codes.
-ghost use Rattle.std.specs.Prelude.{◌≡◌, ℕ, ◌+◌, ◌<◌, ◌≤◌, length};
-ghost use Rattle.filing.specs.Ranges.{head_ranges, line_ranges, first_outside};
+ghost use Rattle.std.specs.Prelude.{◌≡◌, ℕ, ◌+◌, ◌<◌, ◌≤◌, length, IfSome};
+ghost use Rattle.std.specs.List.{zip, position};
+ghost use Rattle.filing.specs.Ranges.{head_ranges, line_ranges, outside, first_outside};
 
 use crate::fields::HeadFields;
 use crate::kinds::LineKind;
@@ -10,6 +11,14 @@ use crate::kinds::LineKind;
 pub(crate) struct Range {
     pub least: u64,
     pub most: u64,
+}
+
+impl Range {
+    fn misses(&self, value: u64) -> bool
+        ensures { result ≡ outside value self.now }
+    {
+        value < self.least || self.most < value
+    }
 }
 
 const NUMBER: Range = Range {
@@ -92,17 +101,25 @@ pub(crate) fn line_ranges(kind: LineKind) -> [Range; 6]
     }
 }
 
+/// The place, from 0, of the first value outside its range.
+fn place_outside<const N: usize>(values: &[u64; N], ranges: &[Range; N]) -> Option<usize>
+    ensures place { result ≡ position (λ p. outside p.0 p.1) (zip values.now ranges.now) }
+    ensures bound { IfSome result (λ i. i < N) }
+{
+    values
+        .iter()
+        .zip(ranges)
+        .position(|(value, range)| range.misses(*value))
+}
+
 /// The code of the first value outside its range, where the first value has the code `from`.
-pub(crate) fn first_outside(from: usize, values: &[u64], ranges: &[Range]) -> Option<usize>
-    requires same { length values.now ≡ length ranges.now }
-    requires few { from + length values.now ≤ 100 }
+pub(crate) fn first_outside<const N: usize>(
+    from: usize,
+    values: &[u64; N],
+    ranges: &[Range; N],
+) -> Option<usize>
+    requires { from + N ≤ 100 }
     ensures { result ≡ first_outside from values.now ranges.now }
 {
-    for i in 0..values.len() {
-        let range = ranges[i];
-        if values[i] < range.least || range.most < values[i] {
-            return Some(from + i);
-        }
-    }
-    None
+    place_outside(values, ranges).map(|i| from + i)
 }

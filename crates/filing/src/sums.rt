@@ -1,8 +1,9 @@
 //! Sums and searches over a head and lines.
 ghost use Rattle.std.specs.Prelude.{◌≡◌, ℕ, ◌+◌, ◌*◌, ◌≤◌, true, map, length};
+ghost use Rattle.std.specs.List.{list_any};
 ghost use Rattle.filing.specs.Checks.{most_lines};
 ghost use Rattle.filing.specs.Emissions.{total};
-ghost use Rattle.filing.specs.Filing.{head_in_range, same, among, attributed_sum};
+ghost use Rattle.filing.specs.Filing.{head_in_range, same, attributed_sum};
 ghost use Rattle.filing.specs.Parts.{head_fields, line_fields};
 
 use crate::fields::LineFields;
@@ -26,25 +27,15 @@ fn alike(line: &Line, fields: &LineFields) -> bool
 
 /// Whether some line has the kind and number of `fields`.
 pub(crate) fn holds(lines: &[Line], fields: &LineFields) -> bool
-    ensures { result ≡ among fields.now (map line_fields lines.now) }
+    ensures { result ≡ list_any (λ line. same fields.now (line_fields line)) lines.now }
 {
-    for line in lines {
-        if alike(line, fields) {
-            return true;
-        }
-    }
-    false
+    lines.iter().any(|line| alike(line, fields))
 }
 
 /// The lines' attributed kilograms together.
 pub(crate) fn attributed_kg(lines: &[Line]) -> u64
     requires { length lines.now ≤ most_lines }
-    ensures value { result ≡ attributed_sum (map line_fields lines.now) }
-    ensures bound { result ≤ 200000000000 * length lines.now }
+    ensures { result ≡ attributed_sum (map line_fields lines.now) }
 {
-    let mut sum = 0;
-    for line in lines {
-        sum += line.attributed.kg;
-    }
-    sum
+    lines.iter().map(|line| line.attributed.kg).sum()
 }
