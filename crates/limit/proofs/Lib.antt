@@ -1,3 +1,2 @@
 pub mod FirstFault
 pub mod Summing
-pub mod Standing

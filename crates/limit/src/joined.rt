@@ -4,9 +4,8 @@ ghost use Rattle.limit.specs.Either.{either_same, either_vacant, either_small};
 
 use crate::method::LimitMethod;
 use crate::outcome::Outcome;
-use enrolment::enrolment::Enrolment;
 use enrolment::kinds::EnrolmentKind;
-use filing::signed::Signed;
+use standard::facility::FacilityYear;
 
 /// A method for industrial facilities and one for stations.
 #[derive(Drop)]
@@ -24,10 +23,10 @@ impl<A: LimitMethod, B: LimitMethod> LimitMethod for Joined<A, B> {
 
     ghost most = { λ j e ps y h. either_small (nat_eq e.kind 1) _ _ (A.LimitMethod.most j.first e ps y h) (B.LimitMethod.most j.second e ps y h) };
 
-    fn outcome(&self, enrolment: &Enrolment, places: &[Option<Signed>; 20], year: u64) -> Outcome {
-        match enrolment.kind {
-            EnrolmentKind::Industrial => self.first.outcome(enrolment, places, year),
-            EnrolmentKind::Station => self.second.outcome(enrolment, places, year),
+    fn outcome(&self, at: FacilityYear<'_>) -> Outcome {
+        match at.enrolment.kind {
+            EnrolmentKind::Industrial => self.first.outcome(at),
+            EnrolmentKind::Station => self.second.outcome(at),
         }
     }
 }

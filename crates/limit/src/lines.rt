@@ -8,32 +8,24 @@ ghost use Rattle.limit.specs.Lines.{limit_of, Means};
 ghost use Rattle.limit.specs.Outcome.{told};
 
 use crate::outcome::Outcome;
-use enrolment::enrolment::Enrolment;
 use filing::filing::Filing;
-use filing::signed::Signed;
 use quantity::rounding::nearest_whole;
 use quantity::units::{Quotient, Tonnes};
 use standard::calculation::Calculation;
-use standard::contribution::contribution;
+use standard::facility::FacilityYear;
 
 /// Ten-millionths to a tonne.
 const TO_A_TONNE: u64 = 10_000_000;
 
 /// The sum of what the lines contribute, rounded once to whole tonnes, or the fault of the first line that has one.
-pub fn limit_of(
-    calculation: Calculation,
-    enrolment: &Enrolment,
-    places: &[Option<Signed>; 20],
-    year: u64,
-    filing: &Filing,
-) -> Outcome
-    ensures value { told result ≡ limit_of (contribution_of calculation (enrolled enrolment.now) (filings places.now) year) (fields_of filing.now).lines }
-    ensures means { Means (contribution_of calculation (enrolled enrolment.now) (filings places.now) year) (fields_of filing.now).lines (told result) }
+pub fn limit_of(calculation: Calculation, at: FacilityYear<'_>, filing: &Filing) -> Outcome
+    ensures value { told result ≡ limit_of (contribution_of calculation (enrolled at.entry.enrolment.now) (filings at.entry.places.now) at.entry.year) (fields_of filing.now).lines }
+    ensures means { Means (contribution_of calculation (enrolled at.entry.enrolment.now) (filings at.entry.places.now) at.entry.year) (fields_of filing.now).lines (told result) }
 {
     let lines = filing.lines();
     let mut sum = 0;
     for (i, line) in lines.iter().enumerate() {
-        match contribution(calculation, enrolment, places, year, line) {
+        match at.contribution(calculation, line) {
             Ok(part) => sum += part.ten_millionths,
             Err(cause) => return Outcome::Fault { cause, line: i + 1 },
         }

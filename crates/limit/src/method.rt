@@ -8,8 +8,7 @@ ghost use Rattle.limit.specs.Laws.{Later, Vacant as VacantLaw, Most};
 ghost use Rattle.limit.specs.Outcome.{Told, told};
 
 use crate::outcome::Outcome;
-use enrolment::enrolment::Enrolment;
-use filing::signed::Signed;
+use standard::facility::FacilityYear;
 
 /// A way to settle a year's limit. It answers its meaning, which is one outcome
 /// for an enrolment, a facility's yearly places and a year.
@@ -17,8 +16,8 @@ pub trait LimitMethod {
     ghost meaning: { Self → EnrolmentFields → List (Option FilingFields) → ℕ → Told };
 
     /// The outcome of a year.
-    fn outcome(&self, enrolment: &Enrolment, places: &[Option<Signed>; 20], year: u64) -> Outcome
-        ensures { told result ≡ meaning self.now (enrolled enrolment.now) (filings places.now) year };
+    fn outcome(&self, at: FacilityYear<'_>) -> Outcome
+        ensures { told result ≡ meaning self.now (enrolled at.entry.enrolment.now) (filings at.entry.places.now) at.entry.year };
 
     ghost later: { (m : Self) → Later (meaning m) };
 

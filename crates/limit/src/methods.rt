@@ -12,9 +12,8 @@ ghost use Rattle.limit.specs.Small.{outcome_small};
 use crate::lines::limit_of;
 use crate::method::LimitMethod;
 use crate::outcome::{NoLimit, Outcome};
-use enrolment::enrolment::Enrolment;
-use filing::signed::Signed;
 use standard::calculation::Calculation;
+use standard::facility::FacilityYear;
 
 /// The method for industrial facilities.
 #[derive(Clone, Copy)]
@@ -24,10 +23,6 @@ pub struct Industrial;
 #[derive(Clone, Copy)]
 pub struct Station;
 
-const FIRST_PLACE: u64 = 2017;
-
-const LAST_PLACE: u64 = 2036;
-
 /// Limits begin with this year.
 const FIRST_LIMIT: u64 = 2019;
 
@@ -35,29 +30,19 @@ const FIRST_LIMIT: u64 = 2019;
 const NEVER_EXEMPT: u16 = 2021;
 
 /// The outcome of a year, where it is known whether the year is exempt.
-fn settled(
-    exempt: bool,
-    calculation: Calculation,
-    enrolment: &Enrolment,
-    places: &[Option<Signed>; 20],
-    year: u64,
-) -> Outcome
-    ensures { told result ≡ of_filing exempt calculation (enrolled enrolment.now) (filings places.now) year (standing (filings places.now) year) }
+fn settled(exempt: bool, calculation: Calculation, at: FacilityYear<'_>) -> Outcome
+    ensures { told result ≡ of_filing exempt calculation (enrolled at.entry.enrolment.now) (filings at.entry.places.now) at.entry.year (standing (filings at.entry.places.now) at.entry.year) }
 {
-    if year < FIRST_PLACE || year > LAST_PLACE {
-        return Outcome::NoLimit(NoLimit::Vacant);
-    }
-    let place = &places[(year - FIRST_PLACE) as usize];
-    let Some(signed) = place else {
+    let Some(filing) = at.filing() else {
         return Outcome::NoLimit(NoLimit::Vacant);
     };
-    if year < FIRST_LIMIT {
+    if at.year < FIRST_LIMIT {
         return Outcome::NoLimit(NoLimit::Early);
     }
     if exempt {
         return Outcome::NoLimit(NoLimit::Exempt);
     }
-    limit_of(calculation, enrolment, places, year, signed.filing())
+    limit_of(calculation, at, filing)
 }
 
 impl LimitMethod for Industrial {
@@ -69,14 +54,9 @@ impl LimitMethod for Industrial {
 
     ghost most = { λ m e ps y h. outcome_small (SpecsExempt.exempt e y) FromYears e ps y h };
 
-    fn outcome(&self, enrolment: &Enrolment, places: &[Option<Signed>; 20], year: u64) -> Outcome {
-        settled(
-            enrolment.exempt(year),
-            Calculation::FromYears,
-            enrolment,
-            places,
-            year,
-        )
+    fn outcome(&self, at: FacilityYear<'_>) -> Outcome {
+        let exempt = at.enrolment.exempt(at.year);
+        settled(exempt, Calculation::FromYears, at)
     }
 }
 
@@ -89,8 +69,8 @@ impl LimitMethod for Station {
 
     ghost most = { λ m e ps y h. outcome_small (station_exempt e y) Barred e ps y h };
 
-    fn outcome(&self, enrolment: &Enrolment, places: &[Option<Signed>; 20], year: u64) -> Outcome {
-        let exempt = enrolment.year < NEVER_EXEMPT && enrolment.exempt(year);
-        settled(exempt, Calculation::Barred, enrolment, places, year)
+    fn outcome(&self, at: FacilityYear<'_>) -> Outcome {
+        let exempt = at.enrolment.year < NEVER_EXEMPT && at.enrolment.exempt(at.year);
+        settled(exempt, Calculation::Barred, at)
     }
 }

@@ -8,6 +8,10 @@ use Rattle.filing.specs.declared.signed.Signed.{Signed}
 abbrev pub Places : Type 0
 Places = List (Option FilingFields)
 
+-- what stands at a year, whatever the places hold; years outside 2017 to 2036 have no place
+abbrev pub at_year : {X : Type 0} → List (Option X) → ℕ → Option X
+at_year ps y = cond (nat_le 2017 y && nat_le y 2036) (slice_index_or ps (y - 2017) None) None
+
 -- what stands at a year; years outside 2017 to 2036 have no place
 abbrev pub standing : Places → ℕ → Option FilingFields
 standing ps y = cond (nat_le 2017 y && nat_le y 2036) (slice_index_or ps (y - 2017) None) None

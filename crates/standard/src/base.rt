@@ -5,6 +5,7 @@ ghost use Rattle.standard.specs.Found.{Candidate, Based};
 ghost use Rattle.standard.specs.Places.{filings, up_to};
 ghost use Rattle.standard.specs.Reference.{base_year, BaseOf};
 
+use crate::facility::FacilityYear;
 use crate::figures::year_of;
 use crate::places::up_to;
 use crate::units::ReferenceYear;
@@ -50,19 +51,16 @@ pub(crate) fn base_of(
     None
 }
 
-/// The base year of an activity, as a year sees it: from 2019 on, the earliest that is not exempt and has a line of the activity.
-pub fn base_year(
-    enrolment: &Enrolment,
-    places: &[Option<Signed>; 20],
-    year: u64,
-    activity: u16,
-) -> Option<u64>
-    ensures value { result ≡ base_year (enrolled enrolment.now) (up_to year (filings places.now)) activity }
-    ensures means { BaseOf (enrolled enrolment.now) (up_to year (filings places.now)) activity result }
-{
-    let past = up_to(places, year);
-    match base_of(enrolment, past, activity) {
-        Some(base) => Some(base.year),
-        None => None,
+impl FacilityYear<'_> {
+    /// The base year of an activity, as the year sees it: from 2019 on, the earliest that is not exempt and has a line of the activity.
+    pub fn base_year(self, activity: u16) -> Option<u64>
+        ensures value { result ≡ base_year (enrolled self.entry.enrolment.now) (up_to self.entry.year (filings self.entry.places.now)) activity }
+        ensures means { BaseOf (enrolled self.entry.enrolment.now) (up_to self.entry.year (filings self.entry.places.now)) activity result }
+    {
+        let past = up_to(self.places, self.year);
+        match base_of(self.enrolment, past, activity) {
+            Some(base) => Some(base.year),
+            None => None,
+        }
     }
 }

@@ -7,10 +7,8 @@ ghost use Rattle.standard.specs.Places.{filings, up_to};
 ghost use Rattle.standard.specs.Views.{standard_number};
 
 use crate::causes::Cause;
-use crate::reference::reference_years;
+use crate::facility::FacilityYear;
 use crate::units::ReferenceYears;
-use enrolment::enrolment::Enrolment;
-use filing::signed::Signed;
 use quantity::rounding::three_figures;
 use quantity::units::{Quotient, Standard};
 
@@ -36,23 +34,20 @@ fn standard_from(kg: u64, thousandths: u64, factor: u8) -> Result<Standard, Caus
     })
 }
 
-/// The calculated standard of an activity, as a year sees it.
-pub fn calculated_standard(
-    enrolment: &Enrolment,
-    places: &[Option<Signed>; 20],
-    year: u64,
-    activity: u16,
-) -> Result<Standard, Cause>
-    ensures { standard_number result ≡ calculated (enrolled enrolment.now) (up_to year (filings places.now)) activity }
-{
-    let factor = enrolment.factor;
-    match reference_years(enrolment, places, year, activity) {
-        ReferenceYears::None => Err(Cause::Reference),
-        ReferenceYears::One(a) => standard_from(a.kg, a.thousandths, factor),
-        ReferenceYears::Two(a, b) => standard_from(
-            a.kg + b.kg,
-            a.thousandths + b.thousandths,
-            factor,
-        ),
+impl FacilityYear<'_> {
+    /// The calculated standard of an activity, as the year sees it.
+    pub fn calculated_standard(self, activity: u16) -> Result<Standard, Cause>
+        ensures { standard_number result ≡ calculated (enrolled self.entry.enrolment.now) (up_to self.entry.year (filings self.entry.places.now)) activity }
+    {
+        let factor = self.enrolment.factor;
+        match self.reference_years(activity) {
+            ReferenceYears::None => Err(Cause::Reference),
+            ReferenceYears::One(a) => standard_from(a.kg, a.thousandths, factor),
+            ReferenceYears::Two(a, b) => standard_from(
+                a.kg + b.kg,
+                a.thousandths + b.thousandths,
+                factor,
+            ),
+        }
     }
 }

@@ -6,6 +6,7 @@ ghost use Rattle.standard.specs.Adding.{Adds};
 ghost use Rattle.standard.specs.Capacity.{dated, lines_at, of_unit, triggers as triggers_in, megawatts, additions, triggering_megawatts, other_megawatts};
 ghost use Rattle.standard.specs.Places.{filing_at, filings, up_to};
 
+use crate::facility::FacilityYear;
 use crate::places::up_to;
 use crate::units::Capacity;
 use filing::filing::Filing;
@@ -93,19 +94,21 @@ fn added_by_place(place: &Option<Signed>, unit: u16, year: u64) -> Capacity
     }
 }
 
-/// The capacity of a unit in a year: what the places of the years up to it add.
-pub fn capacity_of(places: &[Option<Signed>; 20], year: u64, unit: u16) -> Capacity
-    ensures triggering { result.triggering ≡ triggering_megawatts unit (up_to year (filings places.now)) }
-    ensures other { result.other ≡ other_megawatts unit (up_to year (filings places.now)) }
-    ensures all { result.triggering + result.other ≡ sum_by megawatts (additions unit (up_to year (filings places.now))) }
-{
-    let past = up_to(places, year);
-    let mut triggering = 0;
-    let mut other = 0;
-    for (i, place) in past.iter().enumerate() {
-        let added = added_by_place(place, unit, FIRST + i as u64);
-        triggering += added.triggering;
-        other += added.other;
+impl FacilityYear<'_> {
+    /// The capacity of a unit in the year: what the places of the years up to it add.
+    pub fn capacity(self, unit: u16) -> Capacity
+        ensures triggering { result.triggering ≡ triggering_megawatts unit (up_to self.entry.year (filings self.entry.places.now)) }
+        ensures other { result.other ≡ other_megawatts unit (up_to self.entry.year (filings self.entry.places.now)) }
+        ensures all { result.triggering + result.other ≡ sum_by megawatts (additions unit (up_to self.entry.year (filings self.entry.places.now))) }
+    {
+        let past = up_to(self.places, self.year);
+        let mut triggering = 0;
+        let mut other = 0;
+        for (i, place) in past.iter().enumerate() {
+            let added = added_by_place(place, unit, FIRST + i as u64);
+            triggering += added.triggering;
+            other += added.other;
+        }
+        Capacity { triggering, other }
     }
-    Capacity { triggering, other }
 }

@@ -1,8 +1,23 @@
 //! A facility's yearly places, 2017 to 2036, each with the signed filing that stands there or none.
-ghost use Rattle.std.specs.Prelude.{◌≡◌, ◌-◌, ◌≤◌, min, length};
-ghost use Rattle.standard.specs.Places.{filings, up_to};
+ghost use Rattle.std.specs.Prelude.{◌≡◌, ◌-◌, ◌≤◌, min, length, IfSome, option_copied, option_map};
+ghost use Rattle.filing.specs.Views.{fields_of};
+ghost use Rattle.standard.specs.Places.{at_year, filings, standing, up_to};
 
+use crate::facility::FacilityYear;
+use filing::filing::Filing;
 use filing::signed::Signed;
+
+/// The year of the first place.
+pub const FIRST_YEAR: u64 = 2017;
+
+/// What stands at a year, which may be any number: years outside 2017 to 2036 have no place.
+pub fn at_year<T>(places: &[Option<T>; 20], year: u64) -> Option<&T>
+    ensures value { option_copied result ≡ at_year places.now year }
+    ensures placed { IfSome result (λ _. (2017 ≤ year) × (year ≤ 2036)) }
+{
+    let i = year.checked_sub(FIRST_YEAR)?;
+    places.get(i as usize)?.as_ref()
+}
 
 /// How many years have a place.
 const YEARS: u64 = 20;
@@ -21,4 +36,13 @@ pub(crate) fn up_to(places: &[Option<Signed>; 20], year: u64) -> &[Option<Signed
 {
     let count = count_to(year);
     &places[..count]
+}
+
+impl<'a> FacilityYear<'a> {
+    /// The filing that stands at the year.
+    pub fn filing(self) -> Option<&'a Filing>
+        ensures { option_map (λ f. fields_of f.now) result ≡ standing (filings self.entry.places.now) self.entry.year }
+    {
+        Some(at_year(self.places, self.year)?.filing())
+    }
 }

@@ -6,6 +6,7 @@ ghost use Rattle.standard.specs.Reference.{qualifies, figures_at, base_year, bef
 ghost use Rattle.standard.specs.Views.{listed, year_figures};
 
 use crate::base::base_of;
+use crate::facility::FacilityYear;
 use crate::figures::year_of;
 use crate::places::up_to;
 use crate::units::{ReferenceYear, ReferenceYears};
@@ -90,14 +91,11 @@ fn chosen_years(enrolment: &Enrolment, past: &[Option<Signed>], activity: u16) -
     }
 }
 
-/// The reference years of an activity, as a year sees them: no later filing counts.
-pub fn reference_years(
-    enrolment: &Enrolment,
-    places: &[Option<Signed>; 20],
-    year: u64,
-    activity: u16,
-) -> ReferenceYears
-    ensures { listed result ≡ references (enrolled enrolment.now) (up_to year (filings places.now)) activity }
-{
-    chosen_years(enrolment, up_to(places, year), activity)
+impl FacilityYear<'_> {
+    /// The reference years of an activity, as the year sees them: no later filing counts.
+    pub fn reference_years(self, activity: u16) -> ReferenceYears
+        ensures { listed result ≡ references (enrolled self.entry.enrolment.now) (up_to self.entry.year (filings self.entry.places.now)) activity }
+    {
+        chosen_years(self.enrolment, up_to(self.places, self.year), activity)
+    }
 }

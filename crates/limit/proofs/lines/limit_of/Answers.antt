@@ -11,12 +11,12 @@ use Rattle.limit.proofs.lines.limit_of.Goals as goal
 
 pub loop-i-preserved : goal.loop-i-preserved
 loop-i-preserved c =
-    (sum_next (contribution c.args.calculation (enrolled c.args.enrolment.now) (filings c.args.places.now) c.args.year) _ _ _ _ c.loop-i.invariant.0 _ c.loop-i-test.true c.index-lines-i.is _ c.in-Ok.ensures, omega (arith, c.in-Ok.part.range))
+    (sum_next (contribution c.args.calculation (enrolled c.args.at.enrolment.now) (filings c.args.at.places.now) c.args.at.year) _ _ _ _ c.loop-i.invariant.0 _ c.loop-i-test.true c.index-lines-i.is _ c.in-Ok.ensures, omega (arith, c.in-Ok.part.range))
 
 pub returns-in-Err : goal.returns-in-Err
 unfolding limit_of
 returns-in-Err c =
-    let yield = contribution c.args.calculation (enrolled c.args.enrolment.now) (filings c.args.places.now) c.args.year in
+    let yield = contribution c.args.calculation (enrolled c.args.at.enrolment.now) (filings c.args.at.places.now) c.args.at.year in
     let fault = sum_fault yield _ _ _ _ c.loop-i.invariant.0 _ c.loop-i-test.true c.index-lines-i.is _ c.in-Err.ensures in
     let value = ap in_tonnes (fault ∙ ap (summed yield 1) c.lines-lines.ensures.fields) in
     record { value = value; means = subst (Means yield (fields_of c.args.filing.now).lines) (sym value) (means yield (fields_of c.args.filing.now).lines) }
@@ -24,7 +24,7 @@ returns-in-Err c =
 pub returns : goal.returns
 unfolding limit_of
 returns c =
-    let yield = contribution c.args.calculation (enrolled c.args.enrolment.now) (filings c.args.places.now) c.args.year in
+    let yield = contribution c.args.calculation (enrolled c.args.at.enrolment.now) (filings c.args.at.places.now) c.args.at.year in
     let all = sum_all yield _ _ _ _ c.loop-i.invariant.0 c.loop-i-test.false in
     let value = ap limit c.nearest_whole.ensures.value ∙ ap in_tonnes (all ∙ ap (summed yield 1) c.lines-lines.ensures.fields) in
     record { value = value; means = subst (Means yield (fields_of c.args.filing.now).lines) (sym value) (means yield (fields_of c.args.filing.now).lines) }

@@ -2,7 +2,7 @@ use Rattle.std.proofs.Common.{subst, arith}
 use Rattle.standard.specs.Adding.{Adds}
 use Rattle.standard.specs.Capacity.{dated_from, additions, triggering_megawatts, other_megawatts}
 use Rattle.standard.proofs.Additions.{adds_place, adds_places_all, adds_both}
-use Rattle.standard.proofs.capacity.capacity_of.Goals as goal
+use Rattle.standard.proofs.facility.FacilityYear.capacity.Goals as goal
 
 pub loop-i-preserved : goal.loop-i-preserved
 loop-i-preserved c = (

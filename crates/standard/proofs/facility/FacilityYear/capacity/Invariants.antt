@@ -2,7 +2,7 @@ use Rattle.std.proofs.Common.{◌+◌, ◌*◌, ◌≤◌, take}
 use Rattle.standard.specs.Adding.{Adds}
 use Rattle.standard.specs.Capacity.{dated_from}
 use Rattle.standard.specs.Places.{filings}
-use Rattle.standard.proofs.capacity.capacity_of.Given as goal
+use Rattle.standard.proofs.facility.FacilityYear.capacity.Given as goal
 
 abbrev pub invariant-loop-i : goal.invariant-loop-i
 invariant-loop-i l =

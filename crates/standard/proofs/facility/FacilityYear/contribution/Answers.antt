@@ -1,6 +1,6 @@
 use Rattle.std.proofs.lemmas.Result.{err_from_is_err_and}
 use Rattle.standard.proofs.ByKind.{at_stated, at_calculated, not_calculated, barred, at_capacity}
-use Rattle.standard.proofs.contribution.contribution.Goals as goal
+use Rattle.standard.proofs.facility.FacilityYear.contribution.Goals as goal
 
 pub returns-in_err-standard-in-FromYears : goal.returns-in_err-standard-in-FromYears
 returns-in_err-standard-in-FromYears c =
@@ -17,4 +17,4 @@ pub returns-in-Barred : goal.returns-in-Barred
 returns-in-Barred c = barred _ _ _ _ c.args.line.now c.in-Barred.is c.in-Calculated.is
 
 pub returns-in-Gaseous : goal.returns-in-Gaseous
-returns-in-Gaseous c = at_capacity _ _ _ _ c.args.line.now _ c.rounded-production.ensures.value _ _ _ c.in-Gaseous.is c.capacity_of-capacity.ensures.triggering c.capacity_of-capacity.ensures.other c.unit_yield.ensures
+returns-in-Gaseous c = at_capacity _ _ _ _ c.args.line.now _ c.rounded-production.ensures.value _ _ _ c.in-Gaseous.is c.capacity-capacity.ensures.triggering c.capacity-capacity.ensures.other c.unit_yield.ensures
