@@ -1,5 +1,5 @@
 -- What the base year means.
-use Rattle.std.proofs.Common.{◌≡◌, ℕ, ◌≤◌, true, false, not, Some, None, Option, sym, ap, ◌∙◌, subst, arith}
+use Rattle.std.proofs.Common.{◌≡◌, ℕ, ◌≤◌, true, false, not, Some, None, Option, sym, subst, arith}
 use Rattle.std.proofs.lemmas.Bool.{and_from, and_parts, not-true, not_from_false}
 use Rattle.enrolment.specs.Exempt.{exempt}
 use Rattle.enrolment.specs.declared.fields.EnrolmentFields.{EnrolmentFields}
@@ -25,9 +25,6 @@ module _ (e : EnrolmentFields) (ps : Places) (a : ℕ) where
   pub base_from : (y : ℕ) → base_year e ps a ≡ Some y → 2019 ≤ y
   base_from y is = let P : Option ℕ → Type 0 = BaseOf e ps a in (subst P is base_means).from
 
--- the same places by another name
-pub base_found : (e : EnrolmentFields) (ps qs : Places) (a : ℕ) (o : Option ℕ) → ps ≡ qs → base_year e ps a ≡ o → (o ≡ base_year e qs a) × BaseOf e qs a o
-base_found e ps qs a o same is =
-    let value : base_year e qs a ≡ o = ap (λ p. base_year e p a) (sym same) ∙ is in
-    let P : Option ℕ → Type 0 = BaseOf e qs a in
-    (sym value, subst P value (base_means e qs a))
+-- the answer that is the base year
+pub base_is : (e : EnrolmentFields) (ps : Places) (a : ℕ) (o : Option ℕ) → o ≡ base_year e ps a → BaseOf e ps a o
+base_is e ps a o is = let P : Option ℕ → Type 0 = BaseOf e ps a in subst P (sym is) (base_means e ps a)

@@ -8,3 +8,4 @@ pub mod Calculated
 pub mod Contribution
 pub mod Views
 pub mod Found
+pub mod Seen

@@ -1,5 +1,5 @@
 -- The plain numbers of answers.
-use Rattle.std.specs.Prelude.{ℕ, List, [], ◌∷◌, Ok, Err, Result}
+use Rattle.std.specs.Prelude.{ℕ, List, [], ◌∷◌, Some, None, Ok, Err, Option, Result}
 use Rattle.quantity.specs.declared.units.Standard.{Standard}
 use Rattle.standard.specs.Reference.{YearFigures}
 use Rattle.standard.specs.declared.causes.Cause.{Cause}
@@ -19,7 +19,7 @@ contributed (Err c) = Err c
 abbrev pub year_figures : ReferenceYear → YearFigures
 year_figures y = record { year = y.year; kg = y.kg; thousandths = y.thousandths }
 
-abbrev pub listed : ReferenceYears → List YearFigures
-listed years.None = []
-listed (years.One a) = year_figures a ∷ []
-listed (years.Two a b) = year_figures a ∷ year_figures b ∷ []
+abbrev pub listed : Option ReferenceYears → List YearFigures
+listed None = []
+listed (Some (years.One a)) = year_figures a ∷ []
+listed (Some (years.Two a b)) = year_figures a ∷ year_figures b ∷ []

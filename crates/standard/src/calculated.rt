@@ -39,15 +39,11 @@ impl FacilityYear<'_> {
     pub fn calculated_standard(self, activity: u16) -> Result<Standard, Cause>
         ensures { standard_number result ≡ calculated (enrolled self.entry.enrolment.now) (up_to self.entry.year (filings self.entry.places.now)) activity }
     {
-        let factor = self.enrolment.factor;
-        match self.reference_years(activity) {
-            ReferenceYears::None => Err(Cause::Reference),
-            ReferenceYears::One(a) => standard_from(a.kg, a.thousandths, factor),
-            ReferenceYears::Two(a, b) => standard_from(
-                a.kg + b.kg,
-                a.thousandths + b.thousandths,
-                factor,
-            ),
-        }
+        let years = self.reference_years(activity).ok_or(Cause::Reference)?;
+        let (kg, thousandths) = match years {
+            ReferenceYears::One(a) => (a.kg, a.thousandths),
+            ReferenceYears::Two(a, b) => (a.kg + b.kg, a.thousandths + b.thousandths),
+        };
+        standard_from(kg, thousandths, self.enrolment.factor)
     }
 }

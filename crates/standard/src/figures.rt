@@ -1,18 +1,17 @@
 //! What the filing at a year's place has of an activity.
-ghost use Rattle.std.specs.Prelude.{◌≡◌, ◌≤◌, not, length, if◌then◌else◌, Some};
+ghost use Rattle.std.specs.Prelude.{◌≡◌, ◌≤◌, not, sum_by, filter, if◌then◌else◌, Some};
 ghost use Rattle.filing.specs.Parts.{line_fields};
 ghost use Rattle.filing.specs.Views.{filed};
 ghost use Rattle.standard.specs.Found.{YearOf};
-ghost use Rattle.standard.specs.Places.{filings, filing_at, standing};
+ghost use Rattle.standard.specs.Places.{standing};
 ghost use Rattle.standard.specs.Reference.{of_activity};
+ghost use Rattle.standard.specs.Seen.{seen};
 
+use crate::activity::Activity;
 use crate::units::ReferenceYear;
 use filing::kinds::LineKind;
 use filing::parts::Line;
 use filing::signed::Signed;
-
-/// The year of the first place.
-const FIRST_YEAR: u64 = 2017;
 
 /// The production of an activity that has no line.
 const WITHOUT_LINE: u64 = 0;
@@ -21,7 +20,7 @@ const WITHOUT_LINE: u64 = 0;
 fn of_activity(line: &Line, activity: u16) -> bool
     ensures { result ≡ of_activity activity (line_fields line.now) }
 {
-    line.kind.number() == LineKind::Calculated.number() && line.number == activity
+    matches!(line.kind, LineKind::Calculated) && line.number == activity
 }
 
 /// The kilograms attributed to a line, or 0 where it is of the activity.
@@ -69,28 +68,11 @@ fn filed_year(signed: &Signed, year: u64, activity: u16) -> Option<ReferenceYear
     })
 }
 
-/// What a year's place has of the activity.
-fn place_year(place: &Option<Signed>, year: u64, activity: u16) -> Option<ReferenceYear>
-    ensures { YearOf activity year (filing_at place.now) result }
-{
-    match place {
-        Some(signed) => filed_year(signed, year, activity),
-        None => None,
+impl Activity<'_> {
+    /// What a year has of the activity.
+    pub(crate) fn of_year(self, year: u64) -> Option<ReferenceYear>
+        ensures { YearOf self.entry.number year (standing (seen self.entry.at) year) result }
+    {
+        filed_year(self.at.seen(year)?, year, self.number)
     }
-}
-
-/// What a year has of the activity, where the places are those from 2017 on.
-pub(crate) fn year_of(past: &[Option<Signed>], year: u64, activity: u16) -> Option<ReferenceYear>
-    requires { length past.now ≤ 20 }
-    ensures { YearOf activity year (standing (filings past.now) year) result }
-{
-    if year < FIRST_YEAR {
-        return None;
-    }
-    let i = (year - FIRST_YEAR) as usize;
-    if i >= past.len() {
-        return None;
-    }
-    let place = &past[i];
-    place_year(place, year, activity)
 }

@@ -1,6 +1,7 @@
 //! Standards: what a line of a filing contributes to the year's limit.
 #![tactic(auto)]
 
+mod activity;
 pub mod base;
 pub mod calculated;
 pub mod calculation;

@@ -1,7 +1,8 @@
 //! A facility's yearly places, 2017 to 2036, each with the signed filing that stands there or none.
 ghost use Rattle.std.specs.Prelude.{◌≡◌, ◌-◌, ◌≤◌, min, length, IfSome, option_copied, option_map};
 ghost use Rattle.filing.specs.Views.{fields_of};
-ghost use Rattle.standard.specs.Places.{at_year, filings, standing, up_to};
+ghost use Rattle.standard.specs.Places.{at_year, filing_at, filings, standing, up_to};
+ghost use Rattle.standard.specs.Seen.{seen};
 
 use crate::facility::FacilityYear;
 use filing::filing::Filing;
@@ -39,6 +40,16 @@ pub(crate) fn up_to(places: &[Option<Signed>; 20], year: u64) -> &[Option<Signed
 }
 
 impl<'a> FacilityYear<'a> {
+    /// What stands at another year, as this year sees it: no later filing counts.
+    pub(crate) fn seen(self, year: u64) -> Option<&'a Signed>
+        ensures { filing_at (option_copied result) ≡ standing (seen self.entry) year }
+    {
+        if year > self.year {
+            return None;
+        }
+        at_year(self.places, year)
+    }
+
     /// The filing that stands at the year.
     pub fn filing(self) -> Option<&'a Filing>
         ensures { option_map (λ f. fields_of f.now) result ≡ standing (filings self.entry.places.now) self.entry.year }

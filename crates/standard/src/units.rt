@@ -29,7 +29,6 @@ pub struct ReferenceYear {
 /// The reference years of an activity, in order.
 #[derive(Clone, Copy)]
 pub enum ReferenceYears {
-    None,
     One(ReferenceYear),
     Two(ReferenceYear, ReferenceYear),
 }
