@@ -1,13 +1,12 @@
 -- Bytes put into a buffer, one part after another.
-use Rattle.std.proofs.Common.{◌≡◌, ℕ, ◌+◌, ◌-◌, ◌*◌, ◌<◌, ◌≤◌, List, [], ◌∷◌, ◌++◌, length, get_or, take, drop, sym, refl, ap, ◌∙◌, add-zero, mul-le-mul_left, zero-add, mul-one, mul-add, arith}
-use native.Mathlib.Nat.{sub-zero}
+use Rattle.std.proofs.Common.{◌≡◌, ℕ, ◌+◌, ◌*◌, ◌<◌, ◌≤◌, List, [], ◌∷◌, ◌++◌, length, get_or, take, drop, sym, refl, ap, ◌∙◌, add-zero, mul-le-mul_left, zero-add, mul-one, mul-add, arith}
 use borrow.Rule.Slice.PartMut.{put_mid}
 use Rattle.std.specs.List.{flat_map}
-use Rattle.std.proofs.lemmas.List.{append_assoc, take-append-drop, drop-drop, take_at, drop_at, length-append, length-take-le, length-drop, take_rest, take_more, flat_map_more}
+use Rattle.std.proofs.lemmas.List.{append_assoc, take-append-drop, drop-drop, take_at, drop_at, length-append, length-take-le, take_more, flat_map_more}
 use Rattle.filing.specs.Filing.{FilingFields}
 use Rattle.codec.specs.Fields.{head_field, line_field}
 use Rattle.codec.specs.Numbers.{bytes_of}
-use Rattle.codec.specs.Table.{heads, head_codes, line_codes, written_version, written_row}
+use Rattle.codec.specs.Table.{head_codes, line_codes, written_version, written_row}
 use Rattle.codec.specs.Writing.{pasted, field_bytes, line_bytes, opening_bytes, record_of, written}
 
 pub put_pasted : (old ys zs : List ℕ) (at k : ℕ) → k ≡ length zs → ys ≡ zs → put_mid at k old ys ≡ pasted old at zs
@@ -35,19 +34,19 @@ length_joined f k each [] = omega arith
 length_joined f k each (x ∷ xs) = length-append (f x) (flat_map f xs) ∙ omega (arith, each x, length_joined f k each xs, mul-add k 1 (length xs), mul-one k)
 
 -- one more of parts that are equally long
-pub pasted_more : {X : Type 0} (f : X → List ℕ) (k : ℕ) (each : (x : X) → length (f x) ≡ k) (old : List ℕ) (at : ℕ) (xs : List X) (i : ℕ) (x : X) (buffer : List ℕ) (end : ℕ)
-    → x ≡ get_or xs i x → buffer ≡ pasted old at (flat_map f (take i xs)) → end ≡ at + k * i → i < length xs → at + k * i + k ≤ length old
-    → pasted buffer end (f x) ≡ pasted old at (flat_map f (take (i + 1) xs))
-pasted_more f k each old at xs i x buffer end is b q h r =
+pub pasted_more : {X : Type 0} (f : X → List ℕ) (k : ℕ) (each : (x : X) → length (f x) ≡ k) (old : List ℕ) (at : ℕ) (xs : List X) (i : ℕ) (x : X) (buffer : List ℕ)
+    → x ≡ get_or xs i x → buffer ≡ pasted old at (flat_map f (take i xs)) → i < length xs → at + k * i + k ≤ length old
+    → pasted buffer (at + k * i) (f x) ≡ pasted old at (flat_map f (take (i + 1) xs))
+pasted_more f k each old at xs i x buffer is b h r =
     let l : length (flat_map f (take i xs)) ≡ k * i = length_joined f k each (take i xs) ∙ ap (λ n. k * n) (length-take-le i xs (omega arith)) in
     let j : flat_map f (take i xs) ++ f x ≡ flat_map f (take (i + 1) xs) =
     flat_map_more f [] (take i xs) x ∙ ap (λ y. flat_map f (take i xs ++ y ∷ [])) is ∙ ap (flat_map f) (sym (take_more xs i x h)) in
-    let s = pasted_both old (flat_map f (take i xs)) (f x) at end (omega arith) (omega (arith, each x)) in
-    ap (λ b. pasted b end (f x)) b ∙ s ∙ ap (pasted old at) j
+    let s = pasted_both old (flat_map f (take i xs)) (f x) at (at + k * i) (omega arith) (omega (arith, each x)) in
+    ap (λ b. pasted b (at + k * i) (f x)) b ∙ s ∙ ap (pasted old at) j
 
 -- room for one more of n parts of s bytes
-pub room_more : (s i n at end room : ℕ) → i < n → at + s * n ≤ room → end ≡ at + s * i → end + s ≤ room
-room_more s i n at end room h r e = let m : s * (i + 1) ≤ s * n = mul-le-mul_left s (omega arith) in omega (arith, mul-add s i 1, mul-one s)
+pub room_more : (s i n at room : ℕ) → i < n → at + s * n ≤ room → at + s * i + s ≤ room
+room_more s i n at room h r = let m : s * (i + 1) ≤ s * n = mul-le-mul_left s (omega arith) in omega (arith, mul-add s i 1, mul-one s)
 
 -- the four parts of the opening
 pub opening_parts : (old b1 b2 b3 b4 v row : List ℕ) (c : ℕ) → length v ≡ 2 → 6 + length row ≤ length old
@@ -64,24 +63,19 @@ opening_parts old b1 b2 b3 b4 v row c l h e1 e2 e3 e4 =
 pub length_fields : (codes : List ℕ) (value : ℕ → ℕ) → length (field_bytes codes value) ≡ 8 * length codes
 length_fields codes value = length_joined (λ c. bytes_of 8 (value c)) 8 (λ c. refl) codes
 
--- a record of four parts, with the row split as the code splits it
-module _ (v : ℕ) (row : List ℕ) (f : FilingFields) (n : ℕ) (e : n ≡ heads row) (w : n ≤ length row) where
+-- a record of four parts, with the sizes that the code measures
+module _ (v : ℕ) (row : List ℕ) (f : FilingFields) (heads lines many : ℕ) (hs : heads ≡ 8 * length (head_codes row)) (ls : lines ≡ 8 * length (line_codes row)) (ms : many ≡ length f.lines) where
   abbrev size : ℕ
-  size = 6 + length row + 8 * n + 1 + 8 * (length row - n) * length f.lines
+  size = 6 + length row + heads + 1 + lines * many
 
-  heading_is : field_bytes (take (n - 0) row) (head_field f.head) ≡ field_bytes (head_codes row) (head_field f.head)
-  heading_is = ap (λ m. field_bytes (take m row) (head_field f.head)) (sub-zero n ∙ e)
+  length_heading : length (field_bytes (head_codes row) (head_field f.head)) ≡ heads
+  length_heading = length_fields (head_codes row) (head_field f.head) ∙ sym hs
 
-  lines_are : flat_map (line_bytes (take (length row - n) (drop n row))) f.lines ≡ flat_map (line_bytes (line_codes row)) f.lines
-  lines_are = ap (λ cs. flat_map (line_bytes cs) f.lines) (take_rest row n ∙ ap (λ m. drop m row) e)
-
-  length_heading : length (field_bytes (head_codes row) (head_field f.head)) ≡ 8 * n
-  length_heading = length_fields (head_codes row) (head_field f.head) ∙ ap (λ k. 8 * k) (length-take-le (heads row) row (omega arith) ∙ sym e)
-
-  length_lines : length (flat_map (line_bytes (line_codes row)) f.lines) ≡ 8 * (length row - n) * length f.lines
+  length_lines : length (flat_map (line_bytes (line_codes row)) f.lines) ≡ lines * many
   length_lines =
       length_joined (line_bytes (line_codes row)) (8 * length (line_codes row)) (λ l. length_fields (line_codes row) (line_field l)) f.lines
-      ∙ ap (λ k. 8 * k * length f.lines) (length-drop (heads row) row ∙ ap (λ m. length row - m) (sym e))
+      ∙ ap (λ k. k * length f.lines) (sym ls)
+      ∙ ap (λ k. lines * k) (sym ms)
 
   pub length_record : size ≡ length (record_of v row f)
   length_record =
@@ -95,9 +89,9 @@ module _ (v : ℕ) (row : List ℕ) (f : FilingFields) (n : ℕ) (e : n ≡ head
 
   pub record_parts : (old b1 b2 b3 b4 : List ℕ) → size ≤ length old
       → b1 ≡ pasted old 0 (opening_bytes v row)
-      → b2 ≡ pasted b1 (6 + length row) (field_bytes (take (n - 0) row) (head_field f.head))
-      → b3 ≡ pasted b2 (6 + length row + 8 * n) (length f.lines ∷ [])
-      → b4 ≡ pasted b3 (6 + length row + 8 * n + 1) (flat_map (line_bytes (take (length row - n) (drop n row))) f.lines)
+      → b2 ≡ pasted b1 (6 + length row) (field_bytes (head_codes row) (head_field f.head))
+      → b3 ≡ pasted b2 (6 + length row + heads) (length f.lines ∷ [])
+      → b4 ≡ pasted b3 (6 + length row + heads + 1) (flat_map (line_bytes (line_codes row)) f.lines)
       → b4 ≡ record_of v row f ++ drop (length (record_of v row f)) old
   record_parts old b1 b2 b3 b4 h e1 e2 e3 e4 =
       let a : List ℕ = opening_bytes v row in
@@ -105,13 +99,13 @@ module _ (v : ℕ) (row : List ℕ) (f : FilingFields) (n : ℕ) (e : n ≡ head
       let c : List ℕ = length f.lines ∷ [] in
       let d : List ℕ = flat_map (line_bytes (line_codes row)) f.lines in
       let la : length a ≡ 6 + length row = omega arith in
-      let lab : length (a ++ b) ≡ 6 + length row + 8 * n = length-append a b ∙ omega (arith, la, length_heading) in
-      let labc : length ((a ++ b) ++ c) ≡ 6 + length row + 8 * n + 1 = length-append (a ++ b) c ∙ omega (arith, lab) in
-      let s2 : b2 ≡ pasted old 0 (a ++ b) = e2 ∙ ap (pasted b1 (6 + length row)) heading_is ∙ ap (λ x. pasted x (6 + length row) b) e1 ∙ pasted_both old a b 0 (6 + length row) (omega arith) (omega (arith, length_heading)) in
-      let s3 : b3 ≡ pasted old 0 ((a ++ b) ++ c) = e3 ∙ ap (λ x. pasted x (6 + length row + 8 * n) c) s2 ∙ pasted_both old (a ++ b) c 0 (6 + length row + 8 * n) (omega arith) (omega arith) in
+      let lab : length (a ++ b) ≡ 6 + length row + heads = length-append a b ∙ omega (arith, la, length_heading) in
+      let labc : length ((a ++ b) ++ c) ≡ 6 + length row + heads + 1 = length-append (a ++ b) c ∙ omega (arith, lab) in
+      let s2 : b2 ≡ pasted old 0 (a ++ b) = e2 ∙ ap (λ x. pasted x (6 + length row) b) e1 ∙ pasted_both old a b 0 (6 + length row) (omega arith) (omega (arith, length_heading)) in
+      let s3 : b3 ≡ pasted old 0 ((a ++ b) ++ c) = e3 ∙ ap (λ x. pasted x (6 + length row + heads) c) s2 ∙ pasted_both old (a ++ b) c 0 (6 + length row + heads) (omega arith) (omega arith) in
       let s4 : b4 ≡ pasted old 0 (((a ++ b) ++ c) ++ d) =
-      e4 ∙ ap (pasted b3 (6 + length row + 8 * n + 1)) lines_are ∙ ap (λ x. pasted x (6 + length row + 8 * n + 1) d) s3
-      ∙ pasted_both old ((a ++ b) ++ c) d 0 (6 + length row + 8 * n + 1) (omega arith) (omega (arith, length_lines)) in
+      e4 ∙ ap (λ x. pasted x (6 + length row + heads + 1) d) s3
+      ∙ pasted_both old ((a ++ b) ++ c) d 0 (6 + length row + heads + 1) (omega arith) (omega (arith, length_lines)) in
       s4 ∙ ap (pasted old 0) (append_assoc (a ++ b) c d ∙ append_assoc a b (c ++ d)) ∙ ap (λ m. record_of v row f ++ drop m old) (zero-add (length (record_of v row f)))
 
 pub same_record : (v : ℕ) (row : List ℕ) {f g : FilingFields} → v ≡ written_version → row ≡ written_row → f ≡ g → record_of v row f ≡ written g

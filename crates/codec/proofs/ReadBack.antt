@@ -179,4 +179,4 @@ module _ (f : FilingFields) (rest : List ℕ) (s : Sound f) where
   whole_back = then_ok _ opening_back ∙ then_ok _ schema_back ∙ then_ok _ body_back
 
 pub read_back : (f : FilingFields) (rest : List ℕ) → Sound f → reading (written f ++ rest) ≡ Ok (length (written f), written_version, f)
-read_back f rest s = whole_back f rest s ∙ ap (λ n. Ok (n, written_version, f)) (length_record written_version written_row f 7 refl (omega arith))
+read_back f rest s = whole_back f rest s ∙ ap (λ n. Ok (n, written_version, f)) (length_record written_version written_row f 56 56 (length f.lines) refl refl refl)

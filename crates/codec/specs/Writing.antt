@@ -7,13 +7,6 @@ use Rattle.codec.specs.Fields.{head_field, line_field}
 use Rattle.codec.specs.Numbers.{bytes_of}
 use Rattle.codec.specs.Table.{written_version, written_row, head_codes, line_codes}
 use Rattle.codec.specs.declared.faults.WriteFault.{WriteFault}
-use Rattle.codec.specs.declared.writer.Fields.{Fields}
-use Rattle.codec.specs.declared.writer.Fields.TheVariants.{Head, Line}
-
--- the field with a code
-abbrev pub value_of : Fields → ℕ → ℕ
-value_of (Head h) c = head_field h c
-value_of (Line l) c = line_field l c
 
 -- eight bytes for each code
 abbrev pub field_bytes : List ℕ → (ℕ → ℕ) → List ℕ

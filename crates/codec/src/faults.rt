@@ -8,7 +8,7 @@ use filing::faults::FilingFault;
 use std::fmt;
 
 /// A refusal of a record: each case has its number and tells its values.
-#[derive(Clone, Copy)]
+#[derive(Clone, Copy, Debug, PartialEq, Eq)]
 pub enum ReadFault {
     /// The input ends too early: how long it is.
     Cut { length: usize },
@@ -23,7 +23,7 @@ pub enum ReadFault {
 }
 
 /// Why a filing is not written.
-#[derive(Clone, Copy)]
+#[derive(Clone, Copy, Debug, PartialEq, Eq)]
 pub enum WriteFault {
     /// The buffer is too small.
     Short,

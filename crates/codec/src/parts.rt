@@ -4,7 +4,7 @@ ghost use Rattle.codec.specs.Answers.{Says};
 ghost use Rattle.codec.specs.Reading.{part as part_of, opening as opening_of, schema as schema_of};
 
 use crate::faults::ReadFault;
-use crate::table::first_off;
+use crate::table::{Codes, first_off};
 
 /// Where the version stands, after the mark.
 pub(crate) const VERSION_AT: usize = 3;
@@ -45,12 +45,12 @@ pub(crate) fn opening(bytes: &[u8]) -> Result<u16, ReadFault>
 }
 
 /// Compares the schema with the row of the version.
-pub(crate) fn schema(row: &[u8], bytes: &[u8]) -> Result<(), ReadFault>
-    ensures { Says (λ x. x) result (schema_of row.now bytes.now) }
+pub(crate) fn schema(row: Codes, bytes: &[u8]) -> Result<(), ReadFault>
+    ensures { Says (λ x. x) result (schema_of row.list.now bytes.now) }
 {
     let count = part(bytes, COUNT_AT, 1)?;
     let codes = part(bytes, CODES_AT, usize::from(count[0]))?;
-    match first_off(codes, row) {
+    match first_off(codes, row.list) {
         Some(line) => Err(ReadFault::Schema { line }),
         None => Ok(()),
     }

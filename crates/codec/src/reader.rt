@@ -8,24 +8,27 @@ ghost use Rattle.codec.specs.Table.{written_version};
 ghost use Rattle.codec.specs.declared.faults.ReadFault.TheVariants.{Schema};
 
 use crate::faults::ReadFault;
-use crate::fields::{FIELD, head_fields, line_fields};
+use crate::fields::{Coded, Values};
 use crate::parts::{CODES_AT, opening, part, schema};
-use crate::table::{heads, row_of};
+use crate::table::{Codes, row_of};
 use filing::draft::Draft;
 use filing::faults::FilingFault;
+use filing::fields::{HeadFields, LineFields};
 use filing::signed::Signed;
 
 /// The most lines that a record has.
 const MOST_LINES: usize = 6;
 
 /// A draft with the head that stands at a place.
-fn headed(codes: &[u8], at: usize, bytes: &[u8]) -> Result<Draft, ReadFault>
-    requires { length codes.now ≤ 20 }
-    ensures { Says drafted result (headed_of codes.now at bytes.now) }
+fn headed(codes: Codes, at: usize, bytes: &[u8]) -> Result<Draft, ReadFault>
+    ensures { Says drafted result (headed_of codes.list.now at bytes.now) }
 {
-    let found = part(bytes, at, FIELD * codes.len())?;
+    let found = part(bytes, at, codes.size())?;
     let mut draft = Draft::blank();
-    draft.set_head(head_fields(codes, found))?;
+    draft.set_head(HeadFields::of(&Values {
+        codes,
+        bytes: found,
+    }))?;
     Ok(draft)
 }
 
@@ -44,38 +47,37 @@ fn counted(at: usize, bytes: &[u8]) -> Result<usize, ReadFault>
 
 /// Adds the lines that stand from a place on, and answers where they end.
 fn lined(
-    codes: &[u8],
+    codes: Codes,
     count: usize,
     at: usize,
     bytes: &[u8],
     draft: Draft,
 ) -> Result<(usize, Draft), ReadFault>
-    requires few { length codes.now ≤ 20 }
-    requires there { at ≤ length bytes.now }
-    ensures { Says (λ x. (x.0, drafted x.1)) result (lined_of codes.now count at bytes.now (drafted draft)) }
+    requires { at ≤ length bytes.now }
+    ensures { Says (λ x. (x.0, drafted x.1)) result (lined_of codes.list.now count at bytes.now (drafted draft)) }
 {
-    let size = FIELD * codes.len();
+    let size = codes.size();
     let mut full = draft;
-    let mut end = at;
     for i in 0..count {
-        let found = part(bytes, end, size)?;
-        full.add_line(line_fields(codes, found))?;
-        end += size;
+        let found = part(bytes, at + size * i, size)?;
+        full.add_line(LineFields::of(&Values {
+            codes,
+            bytes: found,
+        }))?;
     }
-    Ok((end, full))
+    Ok((at + size * count, full))
 }
 
 /// From the head on: where the record ends, and the filing.
-fn body(row: &[u8], bytes: &[u8]) -> Result<(usize, Signed), ReadFault>
-    requires { length row.now ≤ 20 }
-    ensures { Says (λ x. (x.0, filed x.1)) result (body_of row.now bytes.now) }
+fn body(row: Codes, bytes: &[u8]) -> Result<(usize, Signed), ReadFault>
+    ensures { Says (λ x. (x.0, filed x.1)) result (body_of row.list.now bytes.now) }
 {
-    let heads = heads(row);
-    let at = CODES_AT + row.len();
-    let draft = headed(&row[0..heads], at, bytes)?;
-    let count_at = at + FIELD * heads;
+    let head = row.head();
+    let head_at = CODES_AT + row.list.len();
+    let draft = headed(head, head_at, bytes)?;
+    let count_at = head_at + head.size();
     let count = counted(count_at, bytes)?;
-    let (end, full) = lined(&row[heads..], count, count_at + 1, bytes, draft)?;
+    let (end, full) = lined(row.line(), count, count_at + 1, bytes, draft)?;
     Ok((end, full.sign()))
 }
 
@@ -87,8 +89,8 @@ fn record(bytes: &[u8]) -> Result<(usize, u16, Signed), ReadFault>
     let Some(row) = row_of(version) else {
         return Err(ReadFault::Version);
     };
-    schema(row, bytes)?;
-    let (used, signed) = body(row, bytes)?;
+    schema(row.codes, bytes)?;
+    let (used, signed) = body(row.codes, bytes)?;
     Ok((used, version, signed))
 }
 

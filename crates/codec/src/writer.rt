@@ -4,34 +4,14 @@ ghost use Rattle.std.specs.List.{flat_map};
 ghost use Rattle.filing.specs.Parts.{line_fields};
 ghost use Rattle.filing.specs.Views.{filed};
 ghost use Rattle.codec.specs.Laws.{ReadsBack};
-ghost use Rattle.codec.specs.Writing.{value_of, field_bytes, line_bytes, opening_bytes, written as written_of, pasted, Written};
+ghost use Rattle.codec.specs.Writing.{field_bytes, line_bytes, opening_bytes, written as written_of, pasted, Written};
 
 use crate::faults::WriteFault;
-use crate::fields::{FIELD, head_field, line_field};
+use crate::fields::Coded;
 use crate::parts::{CODES_AT, COUNT_AT, VERSION_AT};
-use crate::table::{Row, heads, written};
-use filing::fields::{HeadFields, LineFields};
+use crate::table::{Codes, FIELD, Row, written};
 use filing::parts::Line;
 use filing::signed::Signed;
-
-/// The fields of one part of a record.
-#[derive(Clone, Copy)]
-enum Fields {
-    Head(HeadFields),
-    Line(LineFields),
-}
-
-impl Fields {
-    /// The field with a code.
-    fn value(&self, code: u8) -> u64
-        ensures { result ≡ value_of self.now code }
-    {
-        match self {
-            Fields::Head(head) => head_field(head, code),
-            Fields::Line(line) => line_field(line, code),
-        }
-    }
-}
 
 /// Puts bytes at a place.
 fn put(buffer: &mut [u8], at: usize, bytes: &[u8])
@@ -43,38 +23,33 @@ fn put(buffer: &mut [u8], at: usize, bytes: &[u8])
 
 /// Puts the mark, the version and the schema at the front.
 fn put_opening(buffer: &mut [u8], row: Row)
-    requires few { length row.codes.now ≤ 20 }
-    requires room { 6 + length row.codes.now ≤ length buffer.old }
-    ensures { buffer.new ≡ pasted buffer.old 0 (opening_bytes row.version row.codes.now) }
+    requires { 6 + length row.codes.list.now ≤ length buffer.old }
+    ensures { buffer.new ≡ pasted buffer.old 0 (opening_bytes row.version row.codes.list.now) }
 {
     put(buffer, 0, &[0x4F, 0x42, 0x46]);
     put(buffer, VERSION_AT, &row.version.to_be_bytes());
-    put(buffer, COUNT_AT, &[row.codes.len() as u8]);
-    put(buffer, CODES_AT, row.codes);
+    put(buffer, COUNT_AT, &[row.codes.list.len() as u8]);
+    put(buffer, CODES_AT, row.codes.list);
 }
 
 /// Puts the fields with some codes at a place.
-fn put_fields(buffer: &mut [u8], at: usize, codes: &[u8], fields: Fields)
-    requires { at + 8 * length codes.now ≤ length buffer.old }
-    ensures { buffer.new ≡ pasted buffer.old at (field_bytes codes.now (value_of fields)) }
+fn put_fields<F: Coded>(buffer: &mut [u8], at: usize, codes: Codes, fields: &F)
+    requires { at + 8 * length codes.list.now ≤ length buffer.old }
+    ensures { buffer.new ≡ pasted buffer.old at (field_bytes codes.list.now (F.field fields.now)) }
 {
-    let mut end = at;
-    for code in codes {
-        put(buffer, end, &fields.value(*code).to_be_bytes());
-        end += FIELD;
+    for (i, code) in codes.list.iter().enumerate() {
+        put(buffer, at + FIELD * i, &fields.value(*code).to_be_bytes());
     }
 }
 
 /// Puts lines at a place, one after another.
-fn put_lines(buffer: &mut [u8], at: usize, codes: &[u8], lines: &[Line])
-    requires few { length codes.now ≤ 20 }
-    requires room { at + 8 * length codes.now * length lines.now ≤ length buffer.old }
-    ensures { buffer.new ≡ pasted buffer.old at (flat_map (line_bytes codes.now) (map line_fields lines.now)) }
+fn put_lines(buffer: &mut [u8], at: usize, codes: Codes, lines: &[Line])
+    requires { at + 8 * length codes.list.now * length lines.now ≤ length buffer.old }
+    ensures { buffer.new ≡ pasted buffer.old at (flat_map (line_bytes codes.list.now) (map line_fields lines.now)) }
 {
-    let mut end = at;
-    for line in lines {
-        put_fields(buffer, end, codes, Fields::Line(line.fields()));
-        end += FIELD * codes.len();
+    let size = codes.size();
+    for (i, line) in lines.iter().enumerate() {
+        put_fields(buffer, at + size * i, codes, &line.fields());
     }
 }
 
@@ -86,21 +61,17 @@ pub fn write(filing: &Signed, buffer: &mut [u8]) -> Result<usize, WriteFault>
 {
     let report = filing.filing();
     let row = written();
-    let heads = heads(row.codes);
-    let head_at = CODES_AT + row.codes.len();
-    let count_at = head_at + FIELD * heads;
-    let size = count_at + 1 + FIELD * (row.codes.len() - heads) * report.count();
+    let head = row.codes.head();
+    let line = row.codes.line();
+    let head_at = CODES_AT + row.codes.list.len();
+    let count_at = head_at + head.size();
+    let size = count_at + 1 + line.size() * report.count();
     if buffer.len() < size {
         return Err(WriteFault::Short);
     }
     put_opening(buffer, row);
-    put_fields(
-        buffer,
-        head_at,
-        &row.codes[0..heads],
-        Fields::Head(report.head().fields()),
-    );
+    put_fields(buffer, head_at, head, &report.head().fields());
     put(buffer, count_at, &[report.count() as u8]);
-    put_lines(buffer, count_at + 1, &row.codes[heads..], report.lines());
+    put_lines(buffer, count_at + 1, line, report.lines());
     Ok(size)
 }
