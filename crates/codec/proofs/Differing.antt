@@ -1,6 +1,7 @@
 -- An accepted record's schema is its version's row; a schema that is refused differs at the line that is told.
 use Rattle.std.proofs.Common.{◌≡◌, ℕ, zero, suc, ◌+◌, ◌-◌, ◌<◌, ◌≤◌, eqb, List, [], ◌∷◌, length, get_or, take, drop, Some, None, Ok, Err, Option, sym, refl, ap, ◌∙◌, subst, inl, inr, arith}
 use Rattle.std.proofs.lemmas.List.{get_or-take, get_or-drop}
+use Rattle.std.proofs.lemmas.Option.{none-some, same_Some}
 use Rattle.std.proofs.lemmas.Bool.{cases_Bool, cond-true, cond-false, eqb-true, eqb-false}
 use Rattle.filing.specs.Filing.{FilingFields}
 use Rattle.filing.specs.Told.{Told, Name, refusal, line}
@@ -10,6 +11,7 @@ use Rattle.codec.specs.Reading.{part, marked, opening, known, matching, schema, 
 use Rattle.codec.specs.Table.{row_of, first_off}
 use Rattle.codec.proofs.Bytes.{number_two}
 use Rattle.codec.proofs.Inverting.{accepted, err_ok, ok_err, ok_inj, err_inj, then_inv, part_inv, schema_row}
+use Rattle.codec.proofs.Schemas.{some_none}
 use Rattle.codec.proofs.Numbered.{never_ok, never_then, never_part, never_opening, never_known, never_body, then_four, four_then}
 
 -- the version and the schema, once they are there
@@ -28,15 +30,6 @@ version_of bs version h = let p = part_inv 3 2 bs version h in ap number (sym p.
 known_is : (o : Option (List ℕ)) (row : List ℕ) → known o ≡ Ok row → o ≡ Some row
 known_is None row h = absurd (err_ok h)
 known_is (Some r) row h = ap (λ x. Some x) (ok_inj h)
-
-some_inj : {X : Type 0} {x y : X} → Some x ≡ Some y → x ≡ y
-some_inj h = cc
-
-some_none : {X : Type 0} {x : X} → Some x ≡ None → ⊥
-some_none h = grind arith
-
-none_some : {X : Type 0} {x : X} → None ≡ Some x → ⊥
-none_some h = grind arith
 
 -- line i of the schema and of the row, where the first line has the number m, up to line n that differs
 record OffAt (m n : ℕ) (ss rs : List ℕ) : Type 0 where
@@ -62,9 +55,9 @@ matching_line None n h = absurd (ok_err h)
 matching_line (Some m) n h = ap (λ (t : Told). Some (first_value t.values)) (err_inj h)
 
 first_off_at : (m n : ℕ) (ss rs : List ℕ) → first_off m ss rs ≡ Some n → OffAt m n ss rs
-first_off_at m n [] [] h = absurd (none_some h)
-first_off_at m n [] (r ∷ rs) h = off_here m n [] (r ∷ rs) (some_inj h) none_some
-first_off_at m n (s ∷ ss) [] h = off_here m n (s ∷ ss) [] (some_inj h) some_none
+first_off_at m n [] [] h = absurd (none-some n h)
+first_off_at m n [] (r ∷ rs) h = off_here m n [] (r ∷ rs) (same_Some _ _ h) (none-some r)
+first_off_at m n (s ∷ ss) [] h = off_here m n (s ∷ ss) [] (same_Some _ _ h) some_none
 first_off_at m n (s ∷ ss) (r ∷ rs) h =
     elim (cases_Bool (eqb s r)) [
       | inl b ↦
@@ -77,7 +70,7 @@ first_off_at m n (s ∷ ss) (r ∷ rs) h =
             before = before_more m n s r ss rs e p;
             there = λ g. p.there (subst (λ (k : ℕ). line_at (s ∷ ss) k ≡ line_at (r ∷ rs) k) z g);
           }
-      | inr b ↦ off_here m n (s ∷ ss) (r ∷ rs) (some_inj (sym (cond-false (eqb s r) (first_off (m + 1) ss rs) (Some m) b) ∙ h)) (λ g. eqb-false s r b (some_inj g))
+      | inr b ↦ off_here m n (s ∷ ss) (r ∷ rs) (same_Some _ _ (sym (cond-false (eqb s r) (first_off (m + 1) ss rs) (Some m) b) ∙ h)) (λ g. eqb-false s r b (same_Some _ _ g))
     ]
 
 -- a schema that is refused

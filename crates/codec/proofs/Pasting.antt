@@ -1,19 +1,12 @@
 -- Bytes put into a buffer, one part after another.
-use Rattle.std.proofs.Common.{◌≡◌, ℕ, ◌+◌, ◌*◌, ◌<◌, ◌≤◌, List, [], ◌∷◌, ◌++◌, length, get_or, take, drop, sym, refl, ap, ◌∙◌, add-zero, mul-le-mul_left, zero-add, mul-one, mul-add, arith}
-use borrow.Rule.Slice.PartMut.{put_mid}
+use Rattle.std.proofs.Common.{◌≡◌, ℕ, ◌+◌, ◌*◌, ◌<◌, ◌≤◌, List, [], ◌∷◌, ◌++◌, length, get_or, take, drop, sym, refl, ap, ◌∙◌, mul-le-mul_left, zero-add, mul-one, mul-add, arith}
 use Rattle.std.specs.List.{flat_map}
-use Rattle.std.proofs.lemmas.List.{append_assoc, take-append-drop, drop-drop, take_at, drop_at, length-append, length-take-le, take_more, flat_map_more}
+use Rattle.std.proofs.lemmas.List.{append_assoc, drop-drop, take_at, drop_at, length-append, length-take-le, take_more, flat_map_more}
 use Rattle.filing.specs.Filing.{FilingFields}
 use Rattle.codec.specs.Fields.{head_field, line_field}
 use Rattle.codec.specs.Numbers.{bytes_of}
 use Rattle.codec.specs.Table.{head_codes, line_codes, written_version, written_row}
 use Rattle.codec.specs.Writing.{pasted, field_bytes, line_bytes, opening_bytes, record_of, written}
-
-pub put_pasted : (old ys zs : List ℕ) (at k : ℕ) → k ≡ length zs → ys ≡ zs → put_mid at k old ys ≡ pasted old at zs
-put_pasted old ys zs at k e y = rw (e, y, drop-drop)
-
-pub pasted_none : (old : List ℕ) (at : ℕ) → pasted old at [] ≡ old
-pasted_none old at = rw add-zero (take-append-drop at old)
 
 -- two parts, the second where the first ends
 pub pasted_both : (old xs ys : List ℕ) (at n : ℕ) → n ≡ at + length xs → n + length ys ≤ length old → pasted (pasted old at xs) n ys ≡ pasted old at (xs ++ ys)
@@ -47,18 +40,6 @@ pasted_more f k each old at xs i x buffer is b h r =
 -- room for one more of n parts of s bytes
 pub room_more : (s i n at room : ℕ) → i < n → at + s * n ≤ room → at + s * i + s ≤ room
 room_more s i n at room h r = let m : s * (i + 1) ≤ s * n = mul-le-mul_left s (omega arith) in omega (arith, mul-add s i 1, mul-one s)
-
--- the four parts of the opening
-pub opening_parts : (old b1 b2 b3 b4 v row : List ℕ) (c : ℕ) → length v ≡ 2 → 6 + length row ≤ length old
-    → b1 ≡ pasted old 0 (0x4F ∷ 0x42 ∷ 0x46 ∷ []) → b2 ≡ pasted b1 3 v → b3 ≡ pasted b2 5 (c ∷ []) → b4 ≡ pasted b3 6 row
-    → b4 ≡ pasted old 0 (0x4F ∷ 0x42 ∷ 0x46 ∷ (v ++ (c ∷ row)))
-opening_parts old b1 b2 b3 b4 v row c l h e1 e2 e3 e4 =
-    let m : List ℕ = 0x4F ∷ 0x42 ∷ 0x46 ∷ [] in
-    let s2 : b2 ≡ pasted old 0 (m ++ v) = e2 ∙ ap (λ b. pasted b 3 v) e1 ∙ pasted_both old m v 0 3 refl (omega arith) in
-    let s3 : b3 ≡ pasted old 0 ((m ++ v) ++ (c ∷ [])) = e3 ∙ ap (λ b. pasted b 5 (c ∷ [])) s2 ∙ pasted_both old (m ++ v) (c ∷ []) 0 5 (omega (arith, length-append m v)) (omega arith) in
-    let s4 : b4 ≡ pasted old 0 (((m ++ v) ++ (c ∷ [])) ++ row) =
-    e4 ∙ ap (λ b. pasted b 6 row) s3 ∙ pasted_both old ((m ++ v) ++ (c ∷ [])) row 0 6 (omega (arith, length-append (m ++ v) (c ∷ []), length-append m v)) (omega arith) in
-    s4 ∙ ap (pasted old 0) (append_assoc (m ++ v) (c ∷ []) row ∙ append_assoc m v (c ∷ row))
 
 pub length_fields : (codes : List ℕ) (value : ℕ → ℕ) → length (field_bytes codes value) ≡ 8 * length codes
 length_fields codes value = length_joined (λ c. bytes_of 8 (value c)) 8 (λ c. refl) codes

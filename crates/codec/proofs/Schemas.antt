@@ -44,7 +44,7 @@ off_is n k m ss rs e f =
       | inr h ↦ off_nowhere n ss rs (omega arith) ∙ sym (cond-false _ _ _ (le-ltb k m h))
     ]
 
-some_none : {A : Type 0} {x : A} → Some x ≡ None → ⊥
+pub some_none : {A : Type 0} {x : A} → Some x ≡ None → ⊥
 some_none h = grind arith
 
 cond_none : {A : Type 0} (b : Bool) (o : Option A) (x : A) → cond b o (Some x) ≡ None → (b ≡ true) × (o ≡ None)

@@ -13,6 +13,3 @@ returns-in-Version-clause-writes g c = rw (c.in-Version.is, decimal_digit 3 (lit
 
 pub returns-in-Schema-clause-writes : goal.returns-in-Schema-clause-writes
 returns-in-Schema-clause-writes g c = rw (c.in-Schema.is, decimal_digit 4 (lit< tt), append-nil) c.write-in-Schema.ensures.writes
-
-pub returns-in-Filing-clause-writes : goal.returns-in-Filing-clause-writes
-returns-in-Filing-clause-writes g c = rw c.in-Filing.is c.write-in-Filing.ensures.writes
