@@ -1,6 +1,7 @@
 -- What the steps of a journal do to the draft, and what they are answered.
 use Rattle.std.specs.Prelude.{◌≡◌, ℕ, length, Ok, Err, Result}
 use Rattle.filing.specs.Checks.{heading, adding}
+use Rattle.filing.specs.declared.faults.FilingFault.{FilingFault}
 use Rattle.filing.specs.Filing.{FilingFields, blank}
 use Rattle.filing.specs.Told.{Told, told}
 use Rattle.filing.specs.Views.{filed}
@@ -18,12 +19,12 @@ pub data Reply : Type 0 where
   signed : FilingFields → Reply
   refused : Told → Reply
 
-abbrev pub replied : Answer → Reply
-replied answer.Set = set
-replied (answer.Line n) = placed n
-replied answer.Blank = cleared
-replied (answer.Signed s) = signed (filed s)
-replied (answer.Refused e) = refused (told e)
+abbrev pub replied : Result Answer FilingFault → Reply
+replied (Ok answer.Set) = set
+replied (Ok (answer.Line n)) = placed n
+replied (Ok answer.Blank) = cleared
+replied (Ok (answer.Signed s)) = signed (filed s)
+replied (Err e) = refused (told e)
 
 -- the rule's filing, and what is said of it; or the rule's refusal, and the draft as it was
 abbrev pub settled : Result FilingFields Told → (FilingFields → Reply) → FilingFields → Reply × FilingFields
@@ -38,9 +39,6 @@ performing Blank f = (cleared, blank)
 performing Sign f = (signed f, blank)
 
 -- a refusal leaves the desk exactly as it was
-abbrev pub RefusedUnchanged : Answer → Desk → Desk → Type 0
-RefusedUnchanged answer.Set old new = Unit {0}
-RefusedUnchanged (answer.Line n) old new = Unit {0}
-RefusedUnchanged answer.Blank old new = Unit {0}
-RefusedUnchanged (answer.Signed s) old new = Unit {0}
-RefusedUnchanged (answer.Refused e) old new = new ≡ old
+abbrev pub RefusedUnchanged : Result Answer FilingFault → Desk → Desk → Type 0
+RefusedUnchanged (Ok a) old new = Unit {0}
+RefusedUnchanged (Err e) old new = new ≡ old

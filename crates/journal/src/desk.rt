@@ -9,7 +9,7 @@ use filing::draft::Draft;
 use filing::faults::FilingFault;
 use filing::signed::Signed;
 
-/// What a step is answered.
+/// What a step that is not refused is answered.
 #[derive(Clone, Copy)]
 pub enum Answer {
     /// The head is set.
@@ -20,8 +20,6 @@ pub enum Answer {
     Blank,
     /// The draft is signed, and the next one is blank.
     Signed(Signed),
-    /// The step is refused, and the draft is as it was.
-    Refused(FilingFault),
 }
 
 /// A draft that is being drawn up.
@@ -40,25 +38,28 @@ impl Desk {
         }
     }
 
-    /// Performs one step and answers it.
-    pub fn perform(&mut self, step: Step) -> Answer
+    /// Performs one step and answers it, or refuses it and leaves the draft as it was.
+    pub fn perform(&mut self, step: Step) -> Result<Answer, FilingFault>
         ensures answer { (replied result, drafted self.new.draft) ≡ performing step (drafted self.old.draft) }
         ensures refused { RefusedUnchanged result self.old self.new }
     {
         match step {
-            Step::Head(fields) => match self.draft.set_head(fields) {
-                Ok(()) => Answer::Set,
-                Err(fault) => Answer::Refused(fault),
-            },
-            Step::Line(fields) => match self.draft.add_line(fields) {
-                Ok(place) => Answer::Line(place),
-                Err(fault) => Answer::Refused(fault),
-            },
+            Step::Head(fields) => {
+                self.draft.set_head(fields)?;
+                Ok(Answer::Set)
+            }
+            Step::Line(fields) => {
+                let place = self.draft.add_line(fields)?;
+                Ok(Answer::Line(place))
+            }
             Step::Blank => {
                 self.draft = Draft::blank();
-                Answer::Blank
+                Ok(Answer::Blank)
             }
-            Step::Sign => Answer::Signed(std::mem::replace(&mut self.draft, Draft::blank()).sign()),
+            Step::Sign => {
+                let draft = std::mem::replace(&mut self.draft, Draft::blank());
+                Ok(Answer::Signed(draft.sign()))
+            }
         }
     }
 }
