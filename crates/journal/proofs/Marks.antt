@@ -1,34 +1,30 @@
--- What one turn of the search for a mark keeps.
-use Rattle.std.proofs.Common.{◌≡◌, ℕ, ◌+◌, ◌<◌, ◌≤◌, cond, eqb, List, [], ◌∷◌, ◌++◌, length, get_or, take, drop, Some, None, sym, ap, ◌∙◌, append_assoc, append-nil}
-use Rattle.std.proofs.lemmas.List.{at_drop_more, at_drop_all, take_more, take_all}
-use Rattle.std.proofs.lemmas.Bool.{eq-eqb, ne_eqb}
+-- The first place of a mark parts the bytes before it from those after it.
+use Rattle.std.proofs.Common.{◌≡◌, ℕ, ◌+◌, ◌≤◌, not, true, false, cond, ◌==◌, nat_lt, List, [], ◌∷◌, length, take, drop, Some, None, Option, position, sym, refl, ◌∙◌, subst, arith}
+use Rattle.std.proofs.lemmas.Bool.{cond_both, ltb-true, ltb-false}
+use Rattle.std.proofs.lemmas.List.{take_all, drop_all}
+use Rattle.std.specs.List.{position_or_len}
 use Rattle.journal.specs.Lines.{before, after, Placed}
 
--- no mark stands below i
-pub record Sofar (mark : ℕ) (bs : List ℕ) (i : ℕ) : Type 0 where
-  pub front : take i bs ++ before mark (drop i bs) ≡ before mark bs
-  pub back : after mark (drop i bs) ≡ after mark bs
+front : (mark : ℕ) (bs : List ℕ) → take (position_or_len (λ b. b == mark) bs) bs ≡ before mark bs
+front mark [] = refl
+front mark (b ∷ bs) =
+    elim (b == mark) as (λ t. take (cond (not t) (1 + position_or_len (λ b. b == mark) bs) 0) (b ∷ bs) ≡ cond t [] (b ∷ before mark bs)) [
+      | true ↦ refl
+      | false ↦ grind (arith, front mark bs)
+    ]
 
-module _ (mark : ℕ) (bs : List ℕ) (i : ℕ) (s : Sofar mark bs i) where
-  pub hit : i < length bs → get_or bs i 0 ≡ mark → Placed mark bs (Some i)
-  hit h e =
-      let b : before mark (drop i bs) ≡ cond (eqb (get_or bs i 0) mark) [] (get_or bs i 0 ∷ before mark (drop (i + 1) bs)) = at_drop_more (before mark) bs i 0 h in
-      let a : after mark (drop i bs) ≡ cond (eqb (get_or bs i 0) mark) (drop (i + 1) bs) (after mark (drop (i + 1) bs)) = at_drop_more (after mark) bs i 0 h in
-      let t = eq-eqb _ _ e in
-      (h, sym (append-nil _) ∙ ap (λ l. take i bs ++ l) (sym (rw t at b)) ∙ s.front, sym (rw t at a) ∙ s.back)
+back : (mark : ℕ) (bs : List ℕ) → drop (position_or_len (λ b. b == mark) bs + 1) bs ≡ after mark bs
+back mark [] = refl
+back mark (b ∷ bs) =
+    elim (b == mark) as (λ t. drop (cond (not t) (1 + position_or_len (λ b. b == mark) bs) 0 + 1) (b ∷ bs) ≡ cond t bs (after mark bs)) [
+      | true ↦ refl
+      | false ↦ grind (arith, back mark bs)
+    ]
 
-  pub miss : i < length bs → (get_or bs i 0 ≡ mark → ⊥) → Sofar mark bs (i + 1)
-  miss h e =
-      let b : before mark (drop i bs) ≡ cond (eqb (get_or bs i 0) mark) [] (get_or bs i 0 ∷ before mark (drop (i + 1) bs)) = at_drop_more (before mark) bs i 0 h in
-      let a : after mark (drop i bs) ≡ cond (eqb (get_or bs i 0) mark) (drop (i + 1) bs) (after mark (drop (i + 1) bs)) = at_drop_more (after mark) bs i 0 h in
-      let t = ne_eqb _ _ e in
-      record {
-        front = ap (λ l. l ++ before mark (drop (i + 1) bs)) (take_more bs i 0 h) ∙ append_assoc (take i bs) _ _ ∙ ap (λ l. take i bs ++ l) (sym (rw t at b)) ∙ s.front;
-        back = sym (rw t at a) ∙ s.back;
-      }
-
-  pub none : length bs ≤ i → Placed mark bs None
-  none h = (
-    sym s.front ∙ ap (λ l. take i bs ++ l) (at_drop_all (before mark) bs i h) ∙ append-nil _ ∙ take_all i bs h,
-    sym s.back ∙ at_drop_all (after mark) bs i h,
-  )
+pub placed : (mark : ℕ) (bs : List ℕ) (o : Option ℕ) → o ≡ position (λ b. b == mark) bs → Placed mark bs o
+placed mark bs o e =
+    let i = position_or_len (λ b. b == mark) bs in
+    subst (Placed mark bs) (sym e)
+    (cond_both (nat_lt i (length bs)) (Some i) None (Placed mark bs)
+    (λ t. (ltb-true i (length bs) t, front mark bs, back mark bs))
+    (λ t. let h : length bs ≤ i = omega (arith, ltb-false i (length bs) t) in (sym (front mark bs) ∙ take_all i bs h, sym (back mark bs) ∙ drop_all (i + 1) bs (omega arith))))

@@ -2,18 +2,11 @@
 ghost use Rattle.std.specs.Prelude.{◌≡◌, ◌<◌, length};
 ghost use Rattle.journal.specs.Lines.{Placed, first_line, after_line};
 
-const LINE_FEED: u8 = b'\n';
-
 /// The place of the first byte that is `mark`.
 pub(crate) fn place(bytes: &[u8], mark: u8) -> Option<usize>
     ensures { Placed mark bytes.now result }
 {
-    for (i, byte) in bytes.iter().enumerate() {
-        if *byte == mark {
-            return Some(i);
-        }
-    }
-    None
+    bytes.iter().position(|byte| *byte == mark)
 }
 
 /// The bytes before the first line feed, and those after it: all and none where there is no line feed.
@@ -22,8 +15,8 @@ pub fn first_line(text: &[u8]) -> (&[u8], &[u8])
     ensures rest { result.1.now ≡ after_line text.now }
     ensures shorter { 0 < length text.now → length result.1.now < length text.now }
 {
-    match place(text, LINE_FEED) {
-        Some(end) => (&text[0..end], &text[end + 1..]),
+    match place(text, b'\n') {
+        Some(end) => (&text[..end], &text[end + 1..]),
         None => (text, &[]),
     }
 }

@@ -1,11 +1,10 @@
-use Rattle.journal.proofs.Marks.{hit, miss, none}
+use Rattle.std.proofs.Common.{◌==◌, rules, tests}
+use Rattle.std.proofs.lemmas.Iterator.{YieldsList-from_slice}
+use Rattle.std.proofs.lemmas.Iterator.Search.{position_from_yields_List}
+use Rattle.journal.proofs.Marks.{placed}
 use Rattle.journal.proofs.lines.place.Goals as goal
 
-pub returns-then-byte-mark : goal.returns-then-byte-mark
-returns-then-byte-mark c = hit _ _ _ c.loop-i.invariant c.loop-i-test.true c.if-byte-mark.true
-
-pub loop-i-preserved : goal.loop-i-preserved
-loop-i-preserved c = miss _ _ _ c.loop-i.invariant c.loop-i-test.true c.if-byte-mark.false
-
 pub returns : goal.returns
-returns c = none _ _ _ c.loop-i.invariant c.loop-i-test.false
+returns c =
+    placed c.args.mark c.args.bytes.now c.position.result
+    (position_from_yields_List (λ b. b == c.args.mark) _ _ c.position.result c.position.ensures.ran (YieldsList-from_slice c.args.bytes.now cc) (λ x b q k. search (rules, tests)))
