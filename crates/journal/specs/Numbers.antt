@@ -1,5 +1,6 @@
 -- Numbers in decimal digits.
-use Rattle.std.specs.Prelude.{ℕ, ◌+◌, ◌-◌, ◌*◌, ◌^◌, Bool, true, cond, not, ◌&&◌, List, [], ◌∷◌, length, Ok, Err, Result, ◌==◌, nat_le, nat_lt}
+use Rattle.std.specs.Prelude.{ℕ, ◌+◌, ◌-◌, ◌*◌, ◌^◌, Bool, cond, not, ◌&&◌, List, fold, length, Ok, Err, Result, ◌==◌, nat_le, nat_lt}
+use Rattle.std.specs.List.{list_all}
 use Rattle.journal.specs.declared.numbers.NumberFault.{NumberFault}
 use Rattle.journal.specs.declared.numbers.NumberFault.TheVariants.{NoNumber, TooLarge}
 
@@ -7,16 +8,14 @@ abbrev pub digit : ℕ → Bool
 digit b = nat_le 48 b && nat_le b 57
 
 abbrev pub all_digits : List ℕ → Bool
-all_digits [] = true
-all_digits (b ∷ bs) = digit b && all_digits bs
+all_digits w = list_all digit w
 
--- the number that digits write after those of n
-abbrev pub value_after : ℕ → List ℕ → ℕ
-value_after n [] = n
-value_after n (b ∷ bs) = value_after (n * 10 + (b - 48)) bs
+-- the number that a digit makes of those before it
+abbrev pub then_digit : ℕ → ℕ → ℕ
+then_digit n b = n * 10 + (b - 48)
 
 abbrev pub value : List ℕ → ℕ
-value w = value_after 0 w
+value w = fold then_digit 0 w
 
 -- a word is a numeral if it has a byte, and no byte but digits
 abbrev pub numeral : List ℕ → Bool

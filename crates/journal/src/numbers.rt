@@ -1,12 +1,6 @@
 //! Numbers in decimal digits.
 ghost use Rattle.std.specs.Prelude.{◌≡◌, ◌^◌, ◌≤◌, true, MatchOption};
-ghost use Rattle.journal.specs.Numbers.{digit, all_digits, value as value_of, decimal as decimal_of};
-
-const ZERO: u8 = b'0';
-
-const NINE: u8 = b'9';
-
-const TEN: u64 = 10;
+ghost use Rattle.journal.specs.Numbers.{all_digits, then_digit, value as value_of, decimal as decimal_of};
 
 #[derive(Clone, Copy, Debug, PartialEq, Eq)]
 pub enum NumberFault {
@@ -16,21 +10,18 @@ pub enum NumberFault {
     TooLarge,
 }
 
-fn is_digit(byte: u8) -> bool
-    ensures { result ≡ digit byte }
-{
-    ZERO <= byte && byte <= NINE
-}
-
 fn all_digits(word: &[u8]) -> bool
     ensures { result ≡ all_digits word.now }
 {
-    for byte in word {
-        if !is_digit(*byte) {
-            return false;
-        }
-    }
-    true
+    word.iter().all(u8::is_ascii_digit)
+}
+
+/// The number that a digit makes of the one before it, or None where that is 2^64 or more.
+fn then_digit(number: u64, digit: u8) -> Option<u64>
+    requires { 48 ≤ digit }
+    ensures { MatchOption result (2 ^ 64 ≤ then_digit number digit) (λ n. n ≡ then_digit number digit) }
+{
+    number.checked_mul(10)?.checked_add(u64::from(digit - b'0'))
 }
 
 /// The number that digits write, or None where it is 2^64 or more.
@@ -38,12 +29,8 @@ fn value(word: &[u8]) -> Option<u64>
     requires { all_digits word.now ≡ true }
     ensures { MatchOption result (2 ^ 64 ≤ value_of word.now) (λ n. n ≡ value_of word.now) }
 {
-    let mut number: u64 = 0;
-    for byte in word {
-        let tens = number.checked_mul(TEN)?;
-        number = tens.checked_add(u64::from(*byte - ZERO))?;
-    }
-    Some(number)
+    word.iter()
+        .try_fold(0, |number, digit| then_digit(number, *digit))
 }
 
 /// The number that a word writes in digits. Leading zeros change nothing.
