@@ -3,5 +3,4 @@ pub mod Runs
 pub mod Digits
 pub mod Row
 pub mod Readings
-pub mod Records
 pub mod Pairs

@@ -1,61 +1,77 @@
--- What one turn over pairs of digits keeps, and how long a word of pairs is.
-use Rattle.std.proofs.Common.{◌≡◌, ℕ, ◌-◌, ◌*◌, ◌≤◌, true, List, [], ◌∷◌, ◌++◌, length, get_or, take, drop, Some, None, Option, sym, refl, ap, ◌∙◌, subst, append_assoc, arith}
-use Rattle.std.proofs.lemmas.List.{take_rest}
-use Rattle.std.proofs.lemmas.Bool.{cond-true, cond_both}
-use Rattle.std.specs.Option.{option_map}
-use Rattle.journal.specs.Sources.{is_hex, both, hex_byte, hex_bytes, unhexed, Sized}
+-- The bytes that the decoder of hexadecimal text gives are those of the pairs of digits.
+use Rattle.std.proofs.Common.{◌≡◌, ℕ, ◌+◌, ◌*◌, ◌/◌, ◌%◌, true, ◌==◌, eqb, List, [], ◌∷◌, length, take, drop, Some, None, Option, Ok, Err, Result, MatchResult, sym, refl, ap, ◌∙◌, arith}
+use Rattle.std.proofs.lemmas.Bool.{cond_both, cond-true, eqb-true, eqb-false}
+use Rattle.hex.specs.declared.error.FromHexError.{FromHexError}
+use lib.Pointwise.{pointwise}
+use Rattle.hex.specs.Hex.{hex_digit_value, value_at, pair_value, decode_pairs, decode_sized, digit_or_error, ◌>>=◌}
+use Rattle.journal.specs.Sources.{is_hex, hex_digit, both, hex_byte, hex_bytes, unhexed}
 
--- the bytes that are done, before those of the digits to come
-abbrev pub joined : List ℕ → Option (List ℕ) → Option (List ℕ)
-joined xs o = option_map (λ ys. xs ++ ys) o
+abbrev pub decoded : {A : Type 0} → Result A FromHexError → Option A
+decoded (Ok x) = Some x
+decoded (Err e) = None
 
-joined_more : (xs : List ℕ) (x : ℕ) (o : Option (List ℕ)) → joined xs (both (λ y ys. y ∷ ys) (Some x) o) ≡ joined (xs ++ x ∷ []) o
-joined_more xs x None = refl
-joined_more xs x (Some ys) = ap Some (sym (append_assoc xs (x ∷ []) ys))
+digit_is : (b : ℕ) → hex_digit_value b ≡ hex_digit b
+digit_is b = grind arith
 
--- the digits after the first two
-abbrev after : List ℕ → List ℕ
-after ds = take (length ds - 2) (drop 2 ds)
+digit_at : (b i : ℕ) (o : Option ℕ) → decoded (digit_or_error b i o) ≡ o
+digit_at b i None = refl
+digit_at b i (Some v) = refl
 
-next : (ds : List ℕ) → 2 ≤ length ds → hex_bytes ds ≡ both (λ x xs. x ∷ xs) (hex_byte (get_or ds 0 0) (get_or ds 1 0)) (hex_bytes (after ds))
-next [] h = absurd (omega arith)
-next (a ∷ []) h = absurd (omega arith)
-next (a ∷ b ∷ ds) h = ap (λ l. both (λ x xs. x ∷ xs) (hex_byte a b) (hex_bytes l)) (sym (take_rest (a ∷ b ∷ ds) 2))
+value_is : (b i : ℕ) → decoded (value_at b i) ≡ hex_digit b
+value_is b i = digit_at b i (hex_digit_value b) ∙ digit_is b
 
-pub more : (ds done rest : List ℕ) → joined done (hex_bytes rest) ≡ hex_bytes ds → 2 ≤ length rest → (x : ℕ) → Some x ≡ hex_byte (get_or rest 0 0) (get_or rest 1 0) → (items : List ℕ) → items ≡ done ++ x ∷ [] → joined items (hex_bytes (after rest)) ≡ hex_bytes ds
-more ds done rest s h x t items e =
-    ap (λ l. joined l (hex_bytes (after rest))) e
-    ∙ sym (joined_more done x (hex_bytes (after rest)))
-    ∙ ap (λ o. joined done (both (λ y ys. y ∷ ys) o (hex_bytes (after rest)))) t
-    ∙ ap (joined done) (sym (next rest h))
-    ∙ s
+both_steps : {A B C : Type 0} (f : A → B → C) (r : Result A FromHexError) (s : Result B FromHexError) → decoded (r >>= (λ x. s >>= (λ y. Ok (f x y)))) ≡ both f (decoded r) (decoded s)
+both_steps f (Ok x) (Ok y) = refl
+both_steps f (Ok x) (Err e) = refl
+both_steps f (Err d) (Ok y) = refl
+both_steps f (Err d) (Err e) = refl
 
--- two digits to a byte
-abbrev Paired : List ℕ → Option (List ℕ) → Type 0
-Paired ds None = Unit {0}
-Paired ds (Some bs) = length ds ≡ 2 * length bs
+pair_is : (a b i : ℕ) → decoded (pair_value a b i) ≡ hex_byte a b
+pair_is a b i =
+    let byte : ℕ → ℕ → ℕ = λ h l. h * 16 + l in
+    both_steps byte (value_at a i) (value_at b (i + 1))
+    ∙ ap (λ o. both byte o (decoded (value_at b (i + 1)))) (value_is a i)
+    ∙ ap (both byte (hex_digit a)) (value_is b (i + 1))
 
-paired_more : (a b : ℕ) (ds : List ℕ) (x : Option ℕ) (o : Option (List ℕ)) → Paired ds o → Paired (a ∷ b ∷ ds) (both (λ y ys. y ∷ ys) x o)
-paired_more a b ds None o h = tt
-paired_more a b ds (Some x) None h = tt
-paired_more a b ds (Some x) (Some bs) h = omega arith
+none_after : {X Y Z : Type 0} (f : X → Y → Z) (o : Option X) → both f o None ≡ None
+none_after f None = refl
+none_after f (Some x) = refl
 
-paired : (ds : List ℕ) → Paired ds (hex_bytes ds)
-paired [] = refl
-paired (a ∷ []) = tt
-paired (a ∷ b ∷ ds) = paired_more a b ds (hex_byte a b) (hex_bytes ds) (paired ds)
+pairs_are : (i : ℕ) (ds : List ℕ) → decoded (decode_pairs i ds) ≡ hex_bytes ds
+unfolding decode_pairs
+pairs_are i [] = refl
+pairs_are i (a ∷ []) = refl
+pairs_are i (a ∷ b ∷ ds) =
+    let more : ℕ → List ℕ → List ℕ = λ x xs. x ∷ xs in
+    both_steps more (pair_value a b i) (decode_pairs (i + 2) ds)
+    ∙ ap (λ o. both more o (decoded (decode_pairs (i + 2) ds))) (pair_is a b i)
+    ∙ ap (both more (hex_byte a b)) (pairs_are (i + 2) ds)
 
-prefixed : (a b : ℕ) (ds : List ℕ) (o : Option (List ℕ)) → Paired ds o → Sized (a ∷ b ∷ ds) o
-prefixed a b ds None h = tt
-prefixed a b ds (Some bs) h = omega arith
+odd : (ds : List ℕ) → length ds % 2 ≡ 1 → hex_bytes ds ≡ None
+odd [] h = absurd (omega arith)
+odd (a ∷ []) h = refl
+odd (a ∷ b ∷ ds) h = ap (both (λ x xs. x ∷ xs) (hex_byte a b)) (odd ds (omega arith)) ∙ none_after _ (hex_byte a b)
 
-sized : (w : List ℕ) → Sized w (unhexed w)
-sized [] = tt
-sized (a ∷ []) = tt
-sized (a ∷ b ∷ ds) = cond_both (is_hex (a ∷ b ∷ ds)) (hex_bytes ds) None (Sized (a ∷ b ∷ ds)) (λ e. prefixed a b ds (hex_bytes ds) (paired ds)) (λ e. tt)
+sized_are : (ds : List ℕ) (n : ℕ) → n ≡ length ds / 2 → decoded (decode_sized ds n) ≡ hex_bytes ds
+sized_are ds n e =
+    cond_both (length ds % 2 == 1) (Err FromHexError.OddLength) _ (λ r. decoded r ≡ hex_bytes ds)
+    (λ t. sym (odd ds (eqb-true _ _ t)))
+    (λ t. cond_both (length ds / 2 == n) (decode_pairs 0 ds) (Err FromHexError.InvalidStringLength) (λ r. decoded r ≡ hex_bytes ds) (λ u. pairs_are 0 ds) (λ u. absurd (eqb-false _ _ u (sym e))))
 
--- the bytes of the digits after `0x` are the bytes of the word
-pub whole : (w : List ℕ) (o : Option (List ℕ)) → is_hex w ≡ true → o ≡ hex_bytes (after w) → (o ≡ unhexed w) × Sized w o
-whole w o t e =
-    let p : o ≡ unhexed w = e ∙ ap hex_bytes (take_rest w 2) ∙ sym (cond-true (is_hex w) (hex_bytes (drop 2 w)) None t) in
-    (p, subst (Sized w) (sym p) (sized w))
+prefixed : (w : List ℕ) → pointwise eqb (take 2 w) (48 ∷ 120 ∷ []) ≡ true → is_hex w ≡ true
+prefixed [] h = grind arith
+prefixed (a ∷ []) h = grind arith
+prefixed (a ∷ b ∷ bs) h = grind arith
+
+-- what is decoded of the digits after `0x` is what the word writes
+pub whole : (w ds : List ℕ) (n : ℕ) → pointwise eqb (take 2 w) (48 ∷ 120 ∷ []) ≡ true → ds ≡ drop 2 w → n ≡ length ds / 2 → decoded (decode_sized ds n) ≡ unhexed w
+whole w ds n t e h = sized_are ds n h ∙ ap hex_bytes e ∙ sym (cond-true (is_hex w) (hex_bytes (drop 2 w)) None (prefixed w t))
+
+-- what the answer of the decoder says of what it decoded
+pub taken : (d : Result (List ℕ) FromHexError) (r : Result (Unit {0}) FromHexError) (out : List ℕ) → MatchResult d (λ bytes. (r ≡ Ok tt) × (out ≡ bytes)) (λ e. r ≡ Err e) → r ≡ Ok tt → decoded d ≡ Some out
+taken (Ok bytes) r out h e = ap Some (sym h.1)
+taken (Err x) r out h e = cc
+
+pub refused : (d : Result (List ℕ) FromHexError) (r : Result (Unit {0}) FromHexError) (out : List ℕ) (x : FromHexError) → MatchResult d (λ bytes. (r ≡ Ok tt) × (out ≡ bytes)) (λ e. r ≡ Err e) → r ≡ Err x → decoded d ≡ None
+refused (Ok bytes) r out x h e = let t : r ≡ Ok tt = h.0 in cc
+refused (Err y) r out x h e = refl

@@ -19,6 +19,7 @@ pub enum Step {
 }
 
 /// Why a line says no step. `at` counts the words of the line from 1, so that the step's own word is at 1.
+// No struct of a place and a cause: an unknown step is always at 1, and such a struct could put it elsewhere.
 #[derive(Clone, Copy)]
 pub enum Misread {
     UnknownStep,
@@ -47,11 +48,11 @@ impl Misread {
 fn number(word: &[u8], at: usize) -> Result<u64, Misread>
     ensures { result ≡ placed at (decimal_of word.now) }
 {
-    match decimal(word) {
-        Ok(number) => Ok(number),
-        Err(NumberFault::NoNumber) => Err(Misread::NoNumber { at }),
-        Err(NumberFault::TooLarge) => Err(Misread::TooLarge { at }),
-    }
+    // No From can make a misreading of a fault, which does not know its place.
+    decimal(word).map_err(|fault| match fault {
+        NumberFault::NoNumber => Misread::NoNumber { at },
+        NumberFault::TooLarge => Misread::TooLarge { at },
+    })
 }
 
 /// The numbers that the words after a step's own write. N are due, few enough that the place of each is a `usize`.
@@ -59,19 +60,19 @@ fn numbers<const N: usize>(words: &[&[u8]]) -> Result<[u64; N], Misread>
     requires { N ≤ 7 }
     ensures { result ≡ numbers_of 2 N (contents words.now) }
 {
+    // `array::try_from_fn` does not say that the fault it gives is that of the first word that has one.
     let mut found = [0; N];
-    for i in 0..N {
-        if i >= words.len() {
-            return Err(Misread::Missing { at: i + 2 });
-        }
-        found[i] = number(words[i], i + 2)?;
+    for (i, figure) in found.iter_mut().enumerate() {
+        let word = words.get(i).ok_or(Misread::Missing { at: i + 2 })?;
+        *figure = number(word, i + 2)?;
     }
-    if words.len() > N {
-        return Err(Misread::Extra { at: N + 2 });
+    match words.get(N) {
+        Some(_) => Err(Misread::Extra { at: N + 2 }),
+        None => Ok(found),
     }
-    Ok(found)
 }
 
+// `head` and `line` differ in the names of their fields alone, and either way each name is written once.
 fn head(words: &[&[u8]]) -> Result<Step, Misread>
     ensures { result ≡ headed (contents words.now) }
 {
@@ -110,26 +111,16 @@ fn alone(words: &[&[u8]], step: Step) -> Result<Step, Misread>
     Ok(step)
 }
 
-pub(crate) fn is(word: &[u8], name: &[u8]) -> bool
-    ensures { result ≡ bytes_eq word.now name.now }
-{
-    word == name
-}
-
 /// The step that a word names, with the words after it.
 fn named(word: &[u8], rest: &[&[u8]]) -> Result<Step, Misread>
     ensures { result ≡ named_of word.now (contents rest.now) }
 {
-    if is(word, b"head") {
-        head(rest)
-    } else if is(word, b"line") {
-        line(rest)
-    } else if is(word, b"blank") {
-        alone(rest, Step::Blank)
-    } else if is(word, b"sign") {
-        alone(rest, Step::Sign)
-    } else {
-        Err(Misread::UnknownStep)
+    match word {
+        b"head" => head(rest),
+        b"line" => line(rest),
+        b"blank" => alone(rest, Step::Blank),
+        b"sign" => alone(rest, Step::Sign),
+        _ => Err(Misread::UnknownStep),
     }
 }
 

@@ -1,24 +1,37 @@
-use lib.ListN.{length-replicate}
+use Rattle.std.proofs.Common.{◌≡◌, ◌+◌, ◌<◌, ◌≤◌, Err, ap, ◌∙◌, arith}
 use Rattle.std.proofs.lemmas.Result.{err_from_is_err_and}
-use Rattle.journal.proofs.Row.{start, missing, wrong, more, extra, all}
+use Rattle.journal.specs.declared.steps.Misread.TheVariants.{Missing}
+use Rattle.journal.specs.Numbers.{decimal}
+use Rattle.journal.specs.Steps.{placed}
+use Rattle.journal.proofs.Row.{missing, wrong, more, all}
 use Rattle.journal.proofs.steps.numbers.Goals as goal
 
-pub loop-i-init : goal.loop-i-init
-loop-i-init g c = start _ _ _ (length-replicate g.row.N 0)
-
-pub returns-then-i-words : goal.returns-then-i-words
-returns-then-i-words g c = missing _ _ _ _ c.loop-i.invariant c.loop-i-test.true c.if-i-words.true
-
-pub returns-in_err-found : goal.returns-in_err-found
-returns-in_err-found g c =
+pub returns-in_err-word : goal.returns-in_err-word
+returns-in_err-word g c =
     let p = err_from_is_err_and c.from_residual.result c.from_residual.ensures.1 in
-    rw (p.1, p.2) (wrong _ _ _ _ c.loop-i.invariant c.loop-i-test.true c.if-i-words.false _ _ c.in_err-found.ensures)
+    let due : c.loop-i.i < g.row.N = omega arith in
+    let short = rw c.in_err-word.ensures.ok_part at c.get.ensures.lookup.3 in
+    let given = rw c.in_err-word.ensures.ok_part at c.in_err-word.ensures.value in
+    let fault : c.in_err-word.field-0.0 ≡ Missing (c.loop-i.i + 2) = cc in
+    rw (p.1, p.2) (ap Err fault ∙ missing _ _ _ _ c.loop-i.invariant due short)
+
+pub returns-in_err-figure : goal.returns-in_err-figure
+returns-in_err-figure g c =
+    let p = err_from_is_err_and c.from_residual-in_err-figure.result c.from_residual-in_err-figure.ensures.1 in
+    let due : c.loop-i.i < g.row.N = omega arith in
+    let there = rw c.in_ok-word.ensures.ok_part at c.get.ensures.lookup.3 in
+    let word = rw c.in_ok-word.ensures.ok_part at c.get.ensures.lookup.1 in
+    rw (p.1, p.2) (wrong _ _ _ _ c.loop-i.invariant due there.0 c.in_ok-word.word.now _ (c.in_err-figure.ensures ∙ ap (λ s. placed (c.loop-i.i + 2) (decimal s.now)) word))
 
 pub loop-i-preserved : goal.loop-i-preserved
-loop-i-preserved g c = more _ _ _ _ c.loop-i.invariant c.loop-i-test.true c.if-i-words.false _ _ c.in_ok-found.ensures
+loop-i-preserved g c =
+    let due : c.loop-i.i < g.row.N = omega arith in
+    let there = rw c.in_ok-word.ensures.ok_part at c.get.ensures.lookup.3 in
+    let word = rw c.in_ok-word.ensures.ok_part at c.get.ensures.lookup.1 in
+    more _ _ _ _ c.loop-i.invariant due there.0 c.in_ok-word.word.now _ (c.in_ok-figure.ensures ∙ ap (λ s. placed (c.loop-i.i + 2) (decimal s.now)) word)
 
-pub returns-then-words : goal.returns-then-words
-returns-then-words g c = extra _ _ _ _ c.loop-i.invariant c.loop-i-test.false c.loop-i.auto.i-end c.if-words.true
-
-pub returns : goal.returns
-returns g c = all _ _ _ _ c.loop-i.invariant c.loop-i-test.false c.loop-i.auto.i-end c.if-words.false
+pub returns-in-None : goal.returns-in-None
+returns-in-None g c =
+    let done : g.row.N ≤ c.loop-i.i = omega arith in
+    let within : c.loop-i.i ≤ g.row.N = omega arith in
+    all _ _ _ _ c.loop-i.invariant done within c.in-None.ensures.lookup.3
