@@ -1,4 +1,5 @@
 //! Answers as the program prints them.
+use filing::fields::LineFields;
 use filing::filing::Filing;
 use filing::parts::Line;
 use journal::desk::Answer;
@@ -27,14 +28,15 @@ pub struct Misreading<'a> {
 
 impl fmt::Display for Entry<'_> {
     fn fmt<W: fmt::Write>(&self, f: &mut fmt::Formatter<W>) -> fmt::Result {
-        let line = self.0.fields();
-        let kind = line.kind;
-        let number = line.number;
-        let production = line.production;
-        let standard = line.standard;
-        let attributed = line.attributed;
-        let added = line.added;
-        let ratio = line.ratio;
+        let LineFields {
+            kind,
+            number,
+            production,
+            standard,
+            attributed,
+            added,
+            ratio,
+        } = self.0.fields();
         write!(
             f,
             "kind {kind} number {number} production {production} standard {standard} attributed {attributed} added {added} ratio {ratio}"
@@ -44,21 +46,18 @@ impl fmt::Display for Entry<'_> {
 
 impl fmt::Display for Summary<'_> {
     fn fmt<W: fmt::Write>(&self, f: &mut fmt::Formatter<W>) -> fmt::Result {
-        let head = self.0.head();
-        let facility = head.facility;
-        let year = head.year;
-        let total = self.0.total().kg;
-        let emissions = self.0.emissions().tonnes;
-        let lines = self.0.lines();
-        let count = lines.len();
+        let filing = self.0;
         write!(
             f,
-            "facility {facility} year {year} total {total} kg emissions {emissions} t lines {count}"
+            "facility {} year {} total {} kg emissions {} t lines {}",
+            filing.head().facility,
+            filing.head().year,
+            filing.total().kg,
+            filing.emissions().tonnes,
+            filing.count()
         )?;
-        for (i, line) in lines.iter().enumerate() {
-            let place = i.saturating_add(1);
-            let entry = Entry(line);
-            write!(f, "; line {place} {entry}")?;
+        for (place, line) in (1u64..).zip(filing.lines()) {
+            write!(f, "; line {place} {}", Entry(line))?;
         }
         Ok(())
     }
@@ -70,10 +69,7 @@ impl fmt::Display for Said {
             Answer::Set => write!(f, "set"),
             Answer::Line(place) => write!(f, "line {place}"),
             Answer::Blank => write!(f, "blank"),
-            Answer::Signed(signed) => {
-                let summary = Summary(signed.filing());
-                write!(f, "signed {summary}")
-            }
+            Answer::Signed(signed) => write!(f, "signed {}", Summary(signed.filing())),
             Answer::Refused(fault) => write!(f, "refused {fault}"),
         }
     }
@@ -94,26 +90,17 @@ const LINE: [&str; 7] = [
 /// What the word at a place of a step's line is called; the step's own word is at 1.
 fn expected(step: &[u8], at: usize) -> &'static str {
     let place = at.saturating_sub(2);
-    if place >= 7 {
-        return "a word";
-    }
-    if step == b"head".as_slice() {
-        HEAD[place]
-    } else if step == b"line".as_slice() {
-        LINE[place]
-    } else {
-        "a word"
-    }
+    let name = match step {
+        b"head" => HEAD.get(place),
+        b"line" => LINE.get(place),
+        _ => None,
+    };
+    name.copied().unwrap_or("a word")
 }
 
 /// The word at a place, counted from 1, or no bytes.
 pub(crate) fn word<'a>(words: &[&'a [u8]], at: usize) -> &'a [u8] {
-    let place = at.saturating_sub(1);
-    if place < words.len() {
-        words[place]
-    } else {
-        b""
-    }
+    words.get(at.saturating_sub(1)).copied().unwrap_or(b"")
 }
 
 impl fmt::Display for Misreading<'_> {

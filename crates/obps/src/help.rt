@@ -31,8 +31,5 @@ thousandths. KIND is 1 (numerical), 2 (calculated) or 3 (gaseous electricity).
 Status 1: a line was not understood, or a file can't be read or written.";
 
 pub(crate) fn help(rt: &HostRuntime) -> Result<(), Failure> {
-    match rt.println(TEXT) {
-        Ok(()) => Ok(()),
-        Err(error) => Err(Failure::Output(error)),
-    }
+    rt.println(TEXT).map_err(Failure::Output)
 }
