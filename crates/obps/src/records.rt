@@ -1,10 +1,14 @@
 //! Files of records: shown, and written anew in the engine's version.
+ghost use Rattle.std.specs.Prelude.{length};
+ghost use Rattle.std.specs.Iterator.{at_most};
+
 use crate::answers::Summary;
 use crate::failures::Failure;
 use codec::faults::ReadFault;
 use codec::reader::read;
 use codec::writer::write;
 use filing::draft::Draft;
+use filing::fields::HeadFields;
 use filing::signed::Signed;
 use std::alloc::Global;
 use std::io::{BufWriter, Write};
@@ -13,30 +17,36 @@ use std::{fmt, fs};
 /// More bytes than any record has.
 const ROOM: usize = 512;
 
-/// A record as it is shown: where it begins, and what it says.
+/// A record of a file: where it begins, and what it says.
 #[derive(Clone, Copy)]
-struct Shown {
+struct Record {
     offset: usize,
     version: u16,
     length: usize,
     signed: Signed,
 }
 
-impl fmt::Display for Shown {
+impl fmt::Display for Record {
     fn fmt<W: fmt::Write>(&self, f: &mut fmt::Formatter<W>) -> fmt::Result {
-        let offset = self.offset;
-        let version = self.version;
-        let length = self.length;
-        let head = self.signed.filing().head().fields();
-        let co2 = head.co2;
-        let ch4 = head.ch4;
-        let n2o = head.n2o;
-        let sf6 = head.sf6;
-        let captured = head.captured;
-        let summary = Summary(self.signed.filing());
+        let Record {
+            offset,
+            version,
+            length,
+            signed,
+        } = *self;
+        let filing = signed.filing();
+        let HeadFields {
+            co2,
+            ch4,
+            n2o,
+            sf6,
+            captured,
+            ..
+        } = filing.head().fields();
         write!(
             f,
-            "offset {offset} version {version} bytes {length} co2 {co2} ch4 {ch4} n2o {n2o} sf6 {sf6} captured {captured} {summary}"
+            "offset {offset} version {version} bytes {length} co2 {co2} ch4 {ch4} n2o {n2o} sf6 {sf6} captured {captured} {}",
+            Summary(filing)
         )
     }
 }
@@ -50,8 +60,7 @@ pub struct RefusedRecord {
 
 impl fmt::Display for RefusedRecord {
     fn fmt<W: fmt::Write>(&self, f: &mut fmt::Formatter<W>) -> fmt::Result {
-        let offset = self.offset;
-        let fault = self.fault;
+        let RefusedRecord { offset, fault } = *self;
         let layer = match fault {
             ReadFault::Filing(_) => "filing",
             _ => "reader",
@@ -60,85 +69,94 @@ impl fmt::Display for RefusedRecord {
     }
 }
 
-/// Prints each record from the front, up to the end or to the first that is refused.
-pub(crate) fn show(rt: &HostRuntime, bytes: &[u8]) -> Result<(), Failure> {
-    let mut out = BufWriter::new(rt.alloc(), rt.stdout()).map_err(|_| Failure::Memory)?;
-    let mut signed = Draft::blank().sign();
-    let mut rest = bytes;
-    let mut offset: usize = 0;
-    while !rest.is_empty() {
-        match read(rest, &mut signed) {
+/// The records of a file from the front, up to its end or to the first that is refused.
+#[derive(Clone, Copy)]
+struct Records<'a> {
+    rest: &'a [u8],
+    offset: usize,
+}
+
+impl Records<'_> {
+    fn of(bytes: &[u8]) -> Records<'_> {
+        Records {
+            rest: bytes,
+            offset: 0,
+        }
+    }
+}
+
+impl Iterator for Records<'_> {
+    type Item = Result<Record, RefusedRecord>;
+
+    ghost remaining = { λ records. at_most (length records.rest.now) };
+
+    fn next(&mut self) -> Option<Result<Record, RefusedRecord>> {
+        if self.rest.is_empty() {
+            return None;
+        }
+        let offset = self.offset;
+        let mut signed = Draft::blank().sign();
+        match read(self.rest, &mut signed) {
             Ok((length, version)) => {
-                let shown = Shown {
+                self.rest = &self.rest[length..];
+                self.offset = offset.saturating_add(length);
+                Some(Ok(Record {
                     offset,
                     version,
                     length,
                     signed,
-                };
-                if let Err(error) = writeln!(out, "{shown}") {
-                    return Err(Failure::Output(error));
-                }
-                rest = &rest[length..];
-                offset = offset.saturating_add(length);
+                }))
             }
             Err(fault) => {
-                let refused = RefusedRecord { offset, fault };
-                if let Err(error) = writeln!(out, "{refused}") {
-                    return Err(Failure::Output(error));
-                }
-                if let Err(error) = out.flush() {
-                    return Err(Failure::Output(error));
-                }
+                self.rest = &[];
+                Some(Err(RefusedRecord { offset, fault }))
+            }
+        }
+    }
+}
+
+/// Prints each record from the front, up to the end or to the first that is refused.
+pub(crate) fn show(rt: &HostRuntime, bytes: &[u8]) -> Result<(), Failure> {
+    let mut out = BufWriter::new(rt.alloc(), rt.stdout()).map_err(|_| Failure::Memory)?;
+    for record in Records::of(bytes) {
+        match record {
+            Ok(record) => writeln!(out, "{record}").map_err(Failure::Output)?,
+            Err(refused) => {
+                writeln!(out, "{refused}").map_err(Failure::Output)?;
+                out.flush().map_err(Failure::Output)?;
                 return Err(Failure::Refused(refused));
             }
         }
     }
-    match out.flush() {
-        Ok(()) => Ok(()),
-        Err(error) => Err(Failure::Output(error)),
-    }
+    out.flush().map_err(Failure::Output)
 }
 
 /// The records of a file one after another in the engine's version, or the first refusal.
 pub(crate) fn upgraded(heap: Global, bytes: &[u8]) -> Result<Vec<u8>, Failure> {
     let mut all = Vec::new(heap);
-    let mut signed = Draft::blank().sign();
-    let mut rest = bytes;
-    let mut offset: usize = 0;
-    while !rest.is_empty() {
-        match read(rest, &mut signed) {
-            Ok((length, _)) => {
-                append(&mut all, &signed)?;
-                rest = &rest[length..];
-                offset = offset.saturating_add(length);
-            }
-            Err(fault) => return Err(Failure::Refused(RefusedRecord { offset, fault })),
-        }
+    for record in Records::of(bytes) {
+        append(&mut all, &record.map_err(Failure::Refused)?.signed)?;
     }
     Ok(all)
 }
 
 /// Appends the record of a filing.
 fn append(all: &mut Vec<u8>, signed: &Signed) -> Result<(), Failure> {
+    // The codec's `write` fills a buffer of its caller's, and takes no memory of its own.
     let mut buffer = [0u8; ROOM];
-    let Ok(length) = write(signed, &mut buffer) else {
-        return Err(Failure::Room);
-    };
-    let Some(record) = buffer.get(0..length) else {
-        return Err(Failure::Room);
-    };
-    all.extend_from_slice(record)?;
-    Ok(())
+    let length = write(signed, &mut buffer).map_err(|_| Failure::Room)?;
+    let record = buffer.get(..length).ok_or(Failure::Room)?;
+    Ok(all.extend_from_slice(record)?)
 }
 
 /// Puts bytes into a file, by way of a new file beside it, so that the old one stays whole until the new one is.
 pub(crate) fn replace(rt: &HostRuntime, path: &str, bytes: &[u8]) -> Result<(), Failure> {
     let beside = format!(in rt.alloc(); "{path}.new")?;
+    // A closure for `map_err` would take the name, which `rename` still needs.
     if let Err(error) = fs::write(rt, beside.as_str(), bytes) {
         return Err(Failure::Unwritable(beside, error));
     }
-    match fs::rename(rt, beside.as_str(), path) {
-        Ok(()) => Ok(()),
-        Err(error) => Err(Failure::Unwritable(String::from_str(rt.alloc(), path)?, error)),
-    }
+    fs::rename(rt, beside.as_str(), path).try_map_err(|error| {
+        Ok(Failure::Unwritable(String::from_str(rt.alloc(), path)?, error))
+    })
 }
