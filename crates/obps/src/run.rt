@@ -5,105 +5,96 @@ use codec::reader::read;
 use filing::draft::Draft;
 use journal::desk::Desk;
 use journal::excerpt::Excerpt;
-use journal::lines::first_line;
 use journal::sources::{is_hex, record_word, unhexed};
-use journal::steps::{Misread, read_step};
+use journal::steps::read_step;
 use journal::words::words;
 use std::alloc::{AllocError, Global};
 use std::fs;
 use std::io::{BufWriter, Write};
 
-fn answered(heap: Global, step: &[u8], said: Said) -> Result<String, AllocError> {
-    let shown = Excerpt(step);
-    format!(in heap; "{shown}\t{said}")
+/// What one line of a journal is answered, after its number.
+#[derive(Drop)]
+pub(crate) enum Reply {
+    /// The line has no words.
+    Silence,
+    Answer(String),
+    /// The line says no step, and this is why.
+    NotUnderstood(String),
 }
 
-fn misunderstood<'a>(
-    heap: Global,
-    step: &'a [u8],
-    wrong: &'a [u8],
-    misread: Misread,
-) -> Result<String, AllocError> {
-    let misreading = Misreading {
-        step,
-        wrong,
-        misread,
-    };
-    format!(in heap; "{misreading}")
-}
-
-/// The answer to `sign`, where the filing is the record at the front of some bytes.
-fn signed(heap: Global, bytes: &[u8]) -> Result<(bool, String), AllocError> {
-    let mut signed = Draft::blank().sign();
-    match read(bytes, &mut signed) {
-        Ok((used, version)) => {
-            let length = bytes.len();
-            let summary = Summary(signed.filing());
-            Ok((
-                true,
-                format!(in heap;
-                    "sign\tsigned version {version} bytes {used} of {length} {summary}"
-                )?,
-            ))
+impl Reply {
+    /// What is printed, if anything is.
+    pub(crate) fn text(&self) -> Option<&str> {
+        match self {
+            Reply::Silence => None,
+            Reply::Answer(text) | Reply::NotUnderstood(text) => Some(text.as_str()),
         }
-        Err(fault) => Ok((true, format!(in heap; "sign\trefused {fault}")?)),
     }
 }
 
+/// The answer to `sign`, where the filing is the record at the front of some bytes.
+fn signed(heap: Global, bytes: &[u8]) -> Result<Reply, AllocError> {
+    let mut signed = Draft::blank().sign();
+    let text = match read(bytes, &mut signed) {
+        Ok((used, version)) => format!(in heap;
+            "sign\tsigned version {version} bytes {used} of {} {}",
+            bytes.len(),
+            Summary(signed.filing())
+        )?,
+        Err(fault) => format!(in heap; "sign\trefused {fault}")?,
+    };
+    Ok(Reply::Answer(text))
+}
+
 /// The answer to `sign` with a file of a record.
-fn signed_file(rt: &HostRuntime, word: &[u8]) -> Result<(bool, String), AllocError> {
+fn signed_file(rt: &HostRuntime, word: &[u8]) -> Result<Reply, AllocError> {
     let heap = rt.alloc();
     let shown = Excerpt(word);
     let Ok(path) = std::str::from_utf8(word) else {
-        return Ok((
-            false,
-            format!(in heap; "sign\tnot understood: no file name: '{shown}'")?,
-        ));
+        let text = format!(in heap; "sign\tnot understood: no file name: '{shown}'")?;
+        return Ok(Reply::NotUnderstood(text));
     };
     match fs::read(rt, path) {
         Ok(bytes) => signed(heap, &bytes),
-        Err(error) => Ok((
-            false,
-            format!(in heap; "sign\tnot understood: cannot read '{shown}': {error}")?,
-        )),
+        Err(error) => Ok(Reply::NotUnderstood(format!(in heap;
+            "sign\tnot understood: cannot read '{shown}': {error}"
+        )?)),
     }
 }
 
 /// The answer to `sign` with a record in hexadecimal.
-fn signed_hex(heap: Global, word: &[u8]) -> Result<(bool, String), AllocError> {
-    match unhexed(heap, word)? {
-        Some(bytes) => signed(heap, &bytes),
-        None => {
-            let shown = Excerpt(word);
-            Ok((
-                false,
-                format!(in heap; "sign\tnot understood: no bytes in hexadecimal: '{shown}'")?,
-            ))
-        }
-    }
+fn signed_hex(heap: Global, word: &[u8]) -> Result<Reply, AllocError> {
+    let Some(bytes) = unhexed(heap, word)? else {
+        let shown = Excerpt(word);
+        let text = format!(in heap; "sign\tnot understood: no bytes in hexadecimal: '{shown}'")?;
+        return Ok(Reply::NotUnderstood(text));
+    };
+    signed(heap, &bytes)
 }
 
-/// What the words of a line are answered, and whether they say a step: the step's word, a tab, and the answer.
-fn respond(heap: Global, desk: &mut Desk, words: &[&[u8]]) -> Result<(bool, String), AllocError> {
+/// What the words of a line are answered: the step's word, a tab, and the answer.
+fn respond(heap: Global, desk: &mut Desk, words: &[&[u8]]) -> Result<Reply, AllocError> {
+    let step = word(words, 1);
     match read_step(words) {
-        Ok(None) => Ok((true, String::new(heap))),
-        Ok(Some(step)) => {
-            let said = Said(desk.perform(step));
-            Ok((true, answered(heap, word(words, 1), said)?))
+        Ok(None) => Ok(Reply::Silence),
+        Ok(Some(asked)) => {
+            let said = Said(desk.perform(asked));
+            Ok(Reply::Answer(format!(in heap; "{}\t{said}", Excerpt(step))?))
         }
-        Err(misread) => Ok((
-            false,
-            misunderstood(heap, word(words, 1), word(words, misread.at()), misread)?,
-        )),
+        Err(misread) => {
+            let wrong = word(words, misread.at());
+            let misreading = Misreading {
+                step,
+                wrong,
+                misread,
+            };
+            Ok(Reply::NotUnderstood(format!(in heap; "{misreading}")?))
+        }
     }
 }
 
-/// The answer to one line, after its number; it is empty where the line has no words.
-pub(crate) fn answer(
-    rt: &HostRuntime,
-    desk: &mut Desk,
-    line: &[u8],
-) -> Result<(bool, String), AllocError> {
+/// The answer to one line.
+pub(crate) fn answer(rt: &HostRuntime, desk: &mut Desk, line: &[u8]) -> Result<Reply, AllocError> {
     let found = words(rt.alloc(), line)?;
     match record_word(found.as_slice()) {
         Some(word) if is_hex(word) => signed_hex(rt.alloc(), word),
@@ -116,27 +107,17 @@ pub(crate) fn answer(
 pub(crate) fn run(rt: &HostRuntime, text: &[u8]) -> Result<(), Failure> {
     let mut out = BufWriter::new(rt.alloc(), rt.stdout()).map_err(|_| Failure::Memory)?;
     let mut desk = Desk::new();
-    let mut rest = text;
-    let mut number: u64 = 0;
     let mut misread: u64 = 0;
-    while !rest.is_empty() {
-        let (line, after) = first_line(rest);
-        rest = after;
-        number = number.saturating_add(1);
-        let (understood, text) = answer(rt, &mut desk, line)?;
-        if text.is_empty() {
-            continue;
+    for (number, line) in (1u64..).zip(text.split(|byte| *byte == b'\n')) {
+        let reply = answer(rt, &mut desk, line)?;
+        if let Some(text) = reply.text() {
+            writeln!(out, "{number}\t{text}").map_err(Failure::Output)?;
         }
-        if !understood {
+        if let Reply::NotUnderstood(_) = reply {
             misread = misread.saturating_add(1);
         }
-        if let Err(error) = writeln!(out, "{number}\t{text}") {
-            return Err(Failure::Output(error));
-        }
     }
-    if let Err(error) = out.flush() {
-        return Err(Failure::Output(error));
-    }
+    out.flush().map_err(Failure::Output)?;
     if misread > 0 {
         return Err(Failure::Misread(misread));
     }

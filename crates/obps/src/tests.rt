@@ -1,5 +1,5 @@
 //! What is answered to steps, to lines that say none, to records, and to hostile bytes.
-use crate::run::answer;
+use crate::run::{Reply, answer};
 use journal::desk::Desk;
 use std::test::Fail;
 
@@ -28,9 +28,9 @@ fn steps_and_refusals(rt: HostRuntime) -> Result<(), Fail> {
         (b"blank", "blank\tblank"),
     ];
     for (line, expected) in lines {
-        let (understood, text) = answer(&rt, &mut desk, line)?;
-        assert!(rt; understood);
-        assert_eq!(rt; text.as_str(), expected);
+        let reply = answer(&rt, &mut desk, line)?;
+        assert!(rt; !matches!(reply, Reply::NotUnderstood(_)));
+        assert_eq!(rt; reply.text().unwrap_or(""), expected);
     }
     Ok(())
 }
@@ -67,9 +67,9 @@ fn lines_that_say_no_step(rt: HostRuntime) -> Result<(), Fail> {
         ),
     ];
     for (line, expected) in lines {
-        let (understood, text) = answer(&rt, &mut desk, line)?;
-        assert!(rt; !understood);
-        assert_eq!(rt; text.as_str(), expected);
+        let reply = answer(&rt, &mut desk, line)?;
+        assert!(rt; matches!(reply, Reply::NotUnderstood(_)));
+        assert_eq!(rt; reply.text().unwrap_or(""), expected);
     }
     Ok(())
 }
@@ -91,9 +91,9 @@ fn records_and_silence(rt: HostRuntime) -> Result<(), Fail> {
         (b"  # \xff", ""),
     ];
     for (line, expected) in lines {
-        let (understood, text) = answer(&rt, &mut desk, line)?;
-        assert!(rt; understood);
-        assert_eq!(rt; text.as_str(), expected);
+        let reply = answer(&rt, &mut desk, line)?;
+        assert!(rt; !matches!(reply, Reply::NotUnderstood(_)));
+        assert_eq!(rt; reply.text().unwrap_or(""), expected);
     }
     Ok(())
 }
