@@ -18,23 +18,19 @@ fn tell(rt: &HostRuntime, bytes: &[u8]) -> anyhow::Result<()> {
     let mut signed = Draft::blank().sign();
     let mut rest = bytes;
     while !rest.is_empty() {
-        match read(rest, &mut signed) {
-            Ok((length, version)) => {
-                let head = signed.filing().head();
-                let facility = head.facility;
-                let year = head.year;
-                let total = signed.filing().total().kg;
-                let lines = signed.filing().count();
-                println!(rt;
-                    "  version {version} bytes {length} facility {facility} year {year} total {total} kg lines {lines}"
-                )?;
-                rest = &rest[length..];
-            }
-            Err(fault) => {
-                println!(rt; "  refused {fault}")?;
-                return Err(anyhow!("a sample record is refused"));
-            }
-        }
+        let (length, version) = read(rest, &mut signed).try_map_err(|fault| {
+            println!(rt; "  refused {fault}")?;
+            Ok(anyhow!("a sample record is refused"))
+        })?;
+        let filing = signed.filing();
+        println!(rt;
+            "  version {version} bytes {length} facility {} year {} total {} kg lines {}",
+            filing.head().facility,
+            filing.head().year,
+            filing.total().kg,
+            filing.count()
+        )?;
+        rest = &rest[length..];
     }
     Ok(())
 }
@@ -42,12 +38,10 @@ fn tell(rt: &HostRuntime, bytes: &[u8]) -> anyhow::Result<()> {
 fn compare(rt: &HostRuntime, sample: Sample) -> anyhow::Result<()> {
     let made = file(rt.alloc(), sample)?;
     let shipped = fs::read(rt, sample.name)?;
-    let name = sample.name;
-    let length = made.len();
-    if made.as_slice() != shipped.as_slice() {
+    if made != shipped {
         return Err(anyhow!("a sample file is not as it is made"));
     }
-    println!(rt; "{name}: {length} bytes, as they are made")?;
+    println!(rt; "{}: {} bytes, as they are made", sample.name, made.len())?;
     tell(rt, &made)
 }
 

@@ -15,160 +15,164 @@ pub struct Sample {
     pub version: u16,
     pub codes: &'static [u8],
     pub head: HeadFields,
-    pub first: LineFields,
-    pub second: LineFields,
+    pub lines: [LineFields; 2],
 }
+
+const PLANT: HeadFields = HeadFields {
+    facility: 1,
+    year: 2018,
+    co2: 412_000_500,
+    ch4: 5_200,
+    n2o: 310,
+    sf6: 0,
+    captured: 0,
+};
+
+const KILNS: LineFields = LineFields {
+    kind: 2,
+    number: 31,
+    production: 351_250_000,
+    standard: 0,
+    attributed: 0,
+    added: 0,
+    ratio: 0,
+};
+
+const STEAM: LineFields = LineFields {
+    kind: 1,
+    number: 12,
+    production: 1_204_500,
+    standard: 5_200,
+    ..KILNS
+};
+
+const TURBINE: LineFields = LineFields {
+    kind: 3,
+    number: 4,
+    production: 86_400,
+    added: 60,
+    ratio: 750,
+    ..KILNS
+};
+
+const BOILER: LineFields = LineFields {
+    number: 5,
+    production: 300_000,
+    added: 100,
+    ratio: 0,
+    ..TURBINE
+};
 
 /// The shipped files.
 pub(crate) fn samples() -> [Sample; 3] {
-    let plant = HeadFields {
-        facility: 1,
-        year: 2018,
-        co2: 412_000_500,
-        ch4: 5_200,
-        n2o: 310,
-        sf6: 0,
-        captured: 0,
+    let captured = HeadFields {
+        year: 2022,
+        sf6: 2,
+        captured: 12_000_000,
+        ..PLANT
     };
-    let kilns = LineFields {
-        kind: 2,
-        number: 31,
-        production: 351_250_000,
-        standard: 0,
-        attributed: 0,
-        added: 0,
-        ratio: 0,
+    let shared = LineFields {
+        attributed: 61_000_000,
+        ..STEAM
     };
-    let steam = LineFields {
-        kind: 1,
-        number: 12,
-        production: 1_204_500,
-        standard: 5_200,
-        attributed: 0,
-        added: 0,
-        ratio: 0,
-    };
-    let turbine = LineFields {
-        kind: 3,
-        number: 4,
-        production: 86_400,
-        standard: 0,
-        attributed: 0,
-        added: 60,
-        ratio: 750,
-    };
-    let boiler = LineFields {
-        kind: 3,
-        number: 5,
-        production: 300_000,
-        standard: 0,
-        attributed: 0,
-        added: 100,
-        ratio: 0,
-    };
-    let mut captured = plant;
-    captured.year = 2022;
-    captured.sf6 = 2;
-    captured.captured = 12_000_000;
-    let mut shared = steam;
-    shared.attributed = 61_000_000;
-    let mut station = plant;
-    station.facility = 3;
     [
         Sample {
             name: "industrial.rec",
             version: 1,
             codes: &INDUSTRIAL,
             head: captured,
-            first: kilns,
-            second: shared,
+            lines: [KILNS, shared],
         },
         Sample {
             name: "station.rec",
             version: 2,
             codes: &STATION,
-            head: station,
-            first: turbine,
-            second: boiler,
+            head: HeadFields {
+                facility: 3,
+                ..PLANT
+            },
+            lines: [TURBINE, BOILER],
         },
         Sample {
             name: "engine.rec",
             version: 3,
             codes: &ENGINE,
             head: captured,
-            first: shared,
-            second: turbine,
+            lines: [shared, TURBINE],
         },
     ]
 }
 
-fn head_value(head: &HeadFields, code: u8) -> u64 {
+/// The field of a head that a code names.
+fn head_value(head: &HeadFields, code: u8) -> Option<u64> {
     match code {
-        1 => head.facility,
-        2 => head.year,
-        3 => head.co2,
-        4 => head.ch4,
-        5 => head.n2o,
-        6 => head.sf6,
-        _ => head.captured,
+        1 => Some(head.facility),
+        2 => Some(head.year),
+        3 => Some(head.co2),
+        4 => Some(head.ch4),
+        5 => Some(head.n2o),
+        6 => Some(head.sf6),
+        7 => Some(head.captured),
+        _ => None,
     }
 }
 
-fn line_value(line: &LineFields, code: u8) -> u64 {
+/// The field of a line that a code names.
+fn line_value(line: &LineFields, code: u8) -> Option<u64> {
     match code {
-        21 => line.kind,
-        22 => line.number,
-        23 => line.production,
-        24 => line.standard,
-        25 => line.attributed,
-        26 => line.added,
-        _ => line.ratio,
+        21 => Some(line.kind),
+        22 => Some(line.number),
+        23 => Some(line.production),
+        24 => Some(line.standard),
+        25 => Some(line.attributed),
+        26 => Some(line.added),
+        27 => Some(line.ratio),
+        _ => None,
     }
 }
 
-fn put_head(all: &mut Vec<u8>, codes: &[u8], head: &HeadFields) -> Result<(), AllocError> {
+/// Appends the value of each code that names one, its most significant byte first.
+fn put<F: Fn(u8) -> Option<u64>>(
+    all: &mut Vec<u8>,
+    codes: &[u8],
+    value: F,
+) -> Result<(), AllocError>
+    requires { F.IsAlwaysCallable value }
+{
     for code in codes {
-        if *code < 21 {
-            all.extend_from_slice(&head_value(head, *code).to_be_bytes())?;
+        if let Some(number) = value(*code) {
+            all.extend_from_slice(&number.to_be_bytes())?;
         }
     }
     Ok(())
 }
 
-fn put_line(all: &mut Vec<u8>, codes: &[u8], line: &LineFields) -> Result<(), AllocError> {
-    for code in codes {
-        if *code >= 21 {
-            all.extend_from_slice(&line_value(line, *code).to_be_bytes())?;
-        }
-    }
-    Ok(())
-}
-
-fn put_opening(all: &mut Vec<u8>, sample: &Sample) -> Result<(), AllocError> {
-    all.extend_from_slice(&[0x4F, 0x42, 0x46])?;
+/// Appends the record of a sample's head and of some lines.
+fn put_record(all: &mut Vec<u8>, sample: &Sample, lines: &[LineFields]) -> Result<(), AllocError> {
+    let codes = sample.codes;
+    all.extend_from_slice(b"OBF")?;
     all.extend_from_slice(&sample.version.to_be_bytes())?;
-    all.push((sample.codes.len() & 0xff) as u8)?;
-    all.extend_from_slice(sample.codes)
+    all.push((codes.len() & 0xff) as u8)?;
+    all.extend_from_slice(codes)?;
+    put(all, codes, |code| head_value(&sample.head, code))?;
+    all.push((lines.len() & 0xff) as u8)?;
+    for line in lines {
+        put(all, codes, |code| line_value(line, code))?;
+    }
+    Ok(())
 }
 
 /// The record with both lines.
 pub(crate) fn record(heap: Global, sample: Sample) -> Result<Vec<u8>, AllocError> {
     let mut all = Vec::new(heap);
-    put_opening(&mut all, &sample)?;
-    put_head(&mut all, sample.codes, &sample.head)?;
-    all.push(2)?;
-    put_line(&mut all, sample.codes, &sample.first)?;
-    put_line(&mut all, sample.codes, &sample.second)?;
+    put_record(&mut all, &sample, &sample.lines)?;
     Ok(all)
 }
 
 /// The record without lines, and after it the one with both.
 pub(crate) fn file(heap: Global, sample: Sample) -> Result<Vec<u8>, AllocError> {
     let mut all = Vec::new(heap);
-    put_opening(&mut all, &sample)?;
-    put_head(&mut all, sample.codes, &sample.head)?;
-    all.push(0)?;
-    let second = record(heap, sample)?;
-    all.extend_from_slice(&second)?;
+    put_record(&mut all, &sample, &[])?;
+    put_record(&mut all, &sample, &sample.lines)?;
     Ok(all)
 }
