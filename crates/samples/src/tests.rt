@@ -15,22 +15,11 @@ fn answer(heap: Global, bytes: &[u8]) -> Result<String, AllocError> {
     }
 }
 
-/// What the reader answers where one byte is another.
-fn answer_with(heap: Global, bytes: &[u8], at: usize, byte: u8) -> Result<String, AllocError> {
+/// What the reader answers where the bytes from a place on are others.
+fn answer_with(heap: Global, bytes: &[u8], at: usize, others: &[u8]) -> Result<String, AllocError> {
     let mut turned = bytes.to_vec(heap)?;
-    if at < turned.len() {
-        turned[at] = byte;
-    }
-    answer(heap, &turned)
-}
-
-/// What the reader answers where the field at a place is another number.
-fn answer_field(heap: Global, bytes: &[u8], at: usize, number: u64) -> Result<String, AllocError> {
-    let mut turned = Vec::new(heap);
-    if bytes.len() >= 8 && at <= bytes.len() - 8 {
-        turned.extend_from_slice(&bytes[0..at])?;
-        turned.extend_from_slice(&number.to_be_bytes())?;
-        turned.extend_from_slice(&bytes[at + 8..])?;
+    for (byte, other) in turned.iter_mut().skip(at).zip(others) {
+        *byte = *other;
     }
     answer(heap, &turned)
 }
@@ -61,28 +50,27 @@ fn opening_turned(rt: HostRuntime) -> Result<(), Fail> {
     for sample in samples() {
         let whole = record(heap, sample)?;
         for at in 0..3 {
-            assert_eq!(rt; answer_with(heap, &whole, at, 0)?.as_str(), "2 mark");
+            assert_eq!(rt; answer_with(heap, &whole, at, &[0])?.as_str(), "2 mark");
         }
-        assert_eq!(rt; answer_with(heap, &whole, 3, 1)?.as_str(), "3 version");
-        assert_eq!(rt; answer_with(heap, &whole, 4, 0)?.as_str(), "3 version");
-        assert_eq!(rt; answer_with(heap, &whole, 4, 4)?.as_str(), "3 version");
+        assert_eq!(rt; answer_with(heap, &whole, 3, &[1])?.as_str(), "3 version");
+        assert_eq!(rt; answer_with(heap, &whole, 4, &[0])?.as_str(), "3 version");
+        assert_eq!(rt; answer_with(heap, &whole, 4, &[4])?.as_str(), "3 version");
         let codes = sample.codes.len();
         for i in 0..codes {
             let expected = format!(in heap; "4 schema line {}", i.saturating_add(1))?;
             assert_eq!(rt;
-                answer_with(heap, &whole, i.saturating_add(6), 99)?.as_str(),
+                answer_with(heap, &whole, i.saturating_add(6), &[99])?.as_str(),
                 expected.as_str()
             );
-            let shorter = format!(in heap; "4 schema line {}", i.saturating_add(1))?;
             assert_eq!(rt;
-                answer_with(heap, &whole, 5, (i & 0xff) as u8)?.as_str(),
-                shorter.as_str()
+                answer_with(heap, &whole, 5, &[(i & 0xff) as u8])?.as_str(),
+                expected.as_str()
             );
         }
         let longer = codes.saturating_add(1);
         let expected = format!(in heap; "4 schema line {longer}")?;
         assert_eq!(rt;
-            answer_with(heap, &whole, 5, (longer & 0xff) as u8)?.as_str(),
+            answer_with(heap, &whole, 5, &[(longer & 0xff) as u8])?.as_str(),
             expected.as_str()
         );
     }
@@ -95,7 +83,7 @@ fn fields_past_their_ranges(rt: HostRuntime) -> Result<(), Fail> {
     let heap = rt.alloc();
     let [_, _, sample] = samples();
     let whole = record(heap, sample)?;
-    let fields = [
+    let fields: [(usize, u64, &str); 23] = [
         (20, 0, "5 range code 1 line 0"),
         (20, 5, "5 range code 1 line 0"),
         (28, 2016, "5 range code 2 line 0"),
@@ -121,9 +109,12 @@ fn fields_past_their_ranges(rt: HostRuntime) -> Result<(), Fail> {
         (181, 10_001, "5 range code 27 line 2"),
     ];
     for (at, number, expected) in fields {
-        assert_eq!(rt; answer_field(heap, &whole, at, number)?.as_str(), expected);
+        assert_eq!(rt;
+            answer_with(heap, &whole, at, &number.to_be_bytes())?.as_str(),
+            expected
+        );
     }
-    assert_eq!(rt; answer_with(heap, &whole, 76, 7)?.as_str(), "7 lines");
+    assert_eq!(rt; answer_with(heap, &whole, 76, &[7])?.as_str(), "7 lines");
     Ok(())
 }
 
@@ -135,7 +126,7 @@ fn order_and_place(rt: HostRuntime) -> Result<(), Fail> {
     let whole = record(heap, sample)?;
     assert!(rt; whole.len() == 189);
     assert_eq!(rt;
-        answer_field(heap, &whole[0..76], 20, 9)?.as_str(),
+        answer_with(heap, &whole[0..76], 20, &9u64.to_be_bytes())?.as_str(),
         "5 range code 1 line 0"
     );
     let mut signed = Draft::blank().sign();
