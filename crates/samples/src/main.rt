@@ -17,6 +17,7 @@ use std::{env, fs};
 fn tell(rt: &HostRuntime, bytes: &[u8]) -> anyhow::Result<()> {
     let mut signed = Draft::blank().sign();
     let mut rest = bytes;
+    // Records are gone through nowhere else here, so an iterator over them would only be longer.
     while !rest.is_empty() {
         let (length, version) = read(rest, &mut signed).try_map_err(|fault| {
             println!(rt; "  refused {fault}")?;
