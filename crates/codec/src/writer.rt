@@ -10,6 +10,7 @@ use crate::faults::WriteFault;
 use crate::fields::Coded;
 use crate::parts::{CODES_AT, COUNT_AT, VERSION_AT};
 use crate::table::{Codes, FIELD, Row, written};
+use filing::fields::{HeadFields, LineFields};
 use filing::parts::Line;
 use filing::signed::Signed;
 
@@ -49,7 +50,7 @@ fn put_lines(buffer: &mut [u8], at: usize, codes: Codes, lines: &[Line])
 {
     let size = codes.size();
     for (i, line) in lines.iter().enumerate() {
-        put_fields(buffer, at + size * i, codes, &line.fields());
+        put_fields(buffer, at + size * i, codes, &LineFields::from(*line));
     }
 }
 
@@ -70,7 +71,7 @@ pub fn write(filing: &Signed, buffer: &mut [u8]) -> Result<usize, WriteFault>
         return Err(WriteFault::Short);
     }
     put_opening(buffer, row);
-    put_fields(buffer, head_at, head, &report.head().fields());
+    put_fields(buffer, head_at, head, &HeadFields::from(report.head()));
     put(buffer, count_at, &[report.count() as u8]);
     put_lines(buffer, count_at + 1, line, report.lines());
     Ok(size)

@@ -36,7 +36,7 @@ impl fmt::Display for Entry<'_> {
             attributed,
             added,
             ratio,
-        } = self.0.fields();
+        } = LineFields::from(*self.0);
         write!(
             f,
             "kind {kind} number {number} production {production} standard {standard} attributed {attributed} added {added} ratio {ratio}"

@@ -42,7 +42,7 @@ impl fmt::Display for Record {
             sf6,
             captured,
             ..
-        } = filing.head().fields();
+        } = HeadFields::from(filing.head());
         write!(
             f,
             "offset {offset} version {version} bytes {length} co2 {co2} ch4 {ch4} n2o {n2o} sf6 {sf6} captured {captured} {}",

@@ -48,8 +48,8 @@ returns c =
         record_parts v row g hn ln c.count.result hs ls c.count.ensures old c.put_opening.new.buffer c.put_fields.new.buffer c.put.new.buffer c.put_lines.new.buffer (omega arith)
             c.put_opening.ensures
             (c.put_fields.ensures
-            ∙ ap (λ cs. pasted c.put_opening.new.buffer (6 + length row) (field_bytes cs (head_field c.fields.result))) c.head-head.ensures
-            ∙ ap (λ (h : HeadFields). pasted c.put_opening.new.buffer (6 + length row) (field_bytes (head_codes row) (head_field h))) (c.fields.ensures ∙ c.head.ensures))
+            ∙ ap (λ cs. pasted c.put_opening.new.buffer (6 + length row) (field_bytes cs (head_field c.from.result))) c.head-head.ensures
+            ∙ ap (λ (h : HeadFields). pasted c.put_opening.new.buffer (6 + length row) (field_bytes (head_codes row) (head_field h))) (c.from.ensures ∙ c.head.ensures))
             (c.put.ensures ∙ ap (λ k. pasted c.put_fields.new.buffer (6 + length row + hn) (k ∷ [])) c.count-2.ensures)
             (c.put_lines.ensures
             ∙ ap (λ cs. pasted c.put.new.buffer (6 + length row + hn + 1) (flat_map (line_bytes cs) (map line_fields c.lines.result.now))) c.line-line.ensures
