@@ -3,6 +3,7 @@
 
 pub mod faults;
 mod fields;
+mod input;
 mod parts;
 pub mod reader;
 mod table;

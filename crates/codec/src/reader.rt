@@ -1,29 +1,31 @@
 //! Reads a record from the front of its bytes.
 ghost use Rattle.std.specs.Prelude.{◌≡◌, ℕ, ◌+◌, ◌*◌, ◌<◌, ◌≤◌, length, IfOk, Ok, Err};
 ghost use Rattle.filing.specs.Views.{drafted, filed};
-ghost use Rattle.codec.specs.Answers.{Says, Placed};
+ghost use Rattle.codec.specs.Answers.{Says, Took, Placed};
 ghost use Rattle.codec.specs.Laws.{Matches, Differs, Followed, Cuts, WritesBack};
-ghost use Rattle.codec.specs.Reading.{headed as headed_of, counted as counted_of, lined as lined_of, body as body_of, reading};
+ghost use Rattle.codec.specs.Reading.{head_at, headed as headed_of, counted as counted_of, lined as lined_of, body as body_of, reading};
 ghost use Rattle.codec.specs.Table.{written_version};
 ghost use Rattle.codec.specs.declared.faults.ReadFault.TheVariants.{Schema};
 
 use crate::faults::ReadFault;
 use crate::fields::{Coded, Values};
-use crate::parts::{CODES_AT, opening, part, schema};
+use crate::input::Input;
+use crate::parts::{COUNT_AT, opening, schema};
 use crate::table::{Codes, row_of};
 use filing::draft::Draft;
 use filing::faults::FilingFault;
 use filing::fields::{HeadFields, LineFields};
 use filing::signed::Signed;
 
+// filing keeps its own constant to itself; the contract of `counted` ties this one to the same rule.
 /// The most lines that a record has.
 const MOST_LINES: usize = 6;
 
-/// A draft with the head that stands at a place.
-fn headed(codes: Codes, at: usize, bytes: &[u8]) -> Result<Draft, ReadFault>
-    ensures { Says drafted result (headed_of codes.list.now at bytes.now) }
+/// A draft with the head that stands next.
+fn headed(codes: Codes, input: &mut Input<'_>) -> Result<Draft, ReadFault>
+    ensures { Took drafted result (headed_of codes.list.now input.old.at input.old.bytes.now) input.old input.new (input.old.at + 8 * length codes.list.now) }
 {
-    let found = part(bytes, at, codes.size())?;
+    let found = input.part(codes.size())?;
     let mut draft = Draft::blank();
     draft.set_head(HeadFields::of(&Values {
         codes,
@@ -32,12 +34,11 @@ fn headed(codes: Codes, at: usize, bytes: &[u8]) -> Result<Draft, ReadFault>
     Ok(draft)
 }
 
-/// The count of lines that stands at a place.
-fn counted(at: usize, bytes: &[u8]) -> Result<usize, ReadFault>
-    ensures says { Says (λ n. n) result (counted_of at bytes.now) }
-    ensures long { IfOk result (λ n. at + 1 ≤ length bytes.now) }
+/// The count of lines that stands next.
+fn counted(input: &mut Input<'_>) -> Result<usize, ReadFault>
+    ensures { Took (λ n. n) result (counted_of input.old.at input.old.bytes.now) input.old input.new (input.old.at + 1) }
 {
-    let found = part(bytes, at, 1)?;
+    let found = input.part(1)?;
     let count = usize::from(found[0]);
     if count > MOST_LINES {
         return Err(ReadFault::Filing(FilingFault::Lines));
@@ -45,40 +46,33 @@ fn counted(at: usize, bytes: &[u8]) -> Result<usize, ReadFault>
     Ok(count)
 }
 
-/// Adds the lines that stand from a place on, and answers where they end.
+/// Adds the lines that stand next.
 fn lined(
     codes: Codes,
     count: usize,
-    at: usize,
-    bytes: &[u8],
+    input: &mut Input<'_>,
     draft: Draft,
-) -> Result<(usize, Draft), ReadFault>
-    requires { at ≤ length bytes.now }
-    ensures { Says (λ x. (x.0, drafted x.1)) result (lined_of codes.list.now count at bytes.now (drafted draft)) }
+) -> Result<Draft, ReadFault>
+    ensures { Says (λ full. (input.new.at, drafted full)) result (lined_of codes.list.now count input.old.at input.old.bytes.now (drafted draft)) }
 {
     let size = codes.size();
     let mut full = draft;
-    for i in 0..count {
-        let found = part(bytes, at + size * i, size)?;
-        full.add_line(LineFields::of(&Values {
-            codes,
-            bytes: found,
-        }))?;
+    for _line in 0..count {
+        let bytes = input.part(size)?;
+        full.add_line(LineFields::of(&Values { codes, bytes }))?;
     }
-    Ok((at + size * count, full))
+    Ok(full)
 }
 
-/// From the head on: where the record ends, and the filing.
-fn body(row: Codes, bytes: &[u8]) -> Result<(usize, Signed), ReadFault>
-    ensures { Says (λ x. (x.0, filed x.1)) result (body_of row.list.now bytes.now) }
+/// The filing, from the head on.
+fn body(row: Codes, input: &mut Input<'_>) -> Result<Signed, ReadFault>
+    requires { input.old.at ≡ head_at row.list.now }
+    ensures { Says (λ signed. (input.new.at, filed signed)) result (body_of row.list.now input.old.bytes.now) }
 {
-    let head = row.head();
-    let head_at = CODES_AT + row.list.len();
-    let draft = headed(head, head_at, bytes)?;
-    let count_at = head_at + head.size();
-    let count = counted(count_at, bytes)?;
-    let (end, full) = lined(row.line(), count, count_at + 1, bytes, draft)?;
-    Ok((end, full.sign()))
+    let draft = headed(row.head(), input)?;
+    let count = counted(input)?;
+    let full = lined(row.line(), count, input, draft)?;
+    Ok(full.sign())
 }
 
 /// What the bytes say: the bytes used, the version and the filing.
@@ -89,9 +83,13 @@ fn record(bytes: &[u8]) -> Result<(usize, u16, Signed), ReadFault>
     let Some(row) = row_of(version) else {
         return Err(ReadFault::Version);
     };
-    schema(row.codes, bytes)?;
-    let (used, signed) = body(row.codes, bytes)?;
-    Ok((used, version, signed))
+    let mut input = Input {
+        bytes,
+        at: COUNT_AT,
+    };
+    schema(row.codes, &mut input)?;
+    let signed = body(row.codes, &mut input)?;
+    Ok((input.at, version, signed))
 }
 
 /// Reads the record at the front of `bytes` into the caller's place, and answers the bytes used and the version.

@@ -10,6 +10,7 @@ pub(crate) const FIELD: usize = 8;
 /// The least code of a line's field.
 const FIRST_OF_LINE: u8 = 21;
 
+// Codes stay numbers, since a schema may hold any byte and is compared with them as it is.
 /// Codes of fields, in the order in which the fields come.
 #[derive(Clone, Copy)]
 pub(crate) struct Codes {

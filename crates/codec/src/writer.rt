@@ -14,6 +14,8 @@ use filing::fields::{HeadFields, LineFields};
 use filing::parts::Line;
 use filing::signed::Signed;
 
+// The buffer and a place are passed side by side: a struct that borrowed the buffer would have every call ensure that it
+// still is that buffer, and where it stands, which is more to read than the place.
 /// Puts bytes at a place.
 fn put(buffer: &mut [u8], at: usize, bytes: &[u8])
     requires { at + length bytes.now ≤ length buffer.old }

@@ -1,29 +1,31 @@
-use Rattle.std.proofs.Common.{sym, ap, ◌∙◌, mul-add, mul-one, arith}
+use Rattle.std.proofs.Common.{sym, ap, ◌∙◌}
 use Rattle.std.proofs.lemmas.Result.{err_from_is_err_and}
 use Rattle.filing.specs.Checks.{adding}
 use Rattle.filing.specs.Views.{drafted}
 use Rattle.codec.proofs.Steps.{lined_cut, lined_refused, lined_more}
 use Rattle.codec.proofs.reader.lined.Goals as goal
 
-pub returns-in_err-found : goal.returns-in_err-found
-returns-in_err-found c =
+pub returns-in_err-bytes : goal.returns-in_err-bytes
+returns-in_err-bytes c =
     let p = err_from_is_err_and c.from_residual.result c.from_residual.ensures.1 in
+    let s = c.loop-line in
     rw (p.1, p.2)
-    (sym c.loop-i.invariant.0
-    ∙ lined_cut c.args.codes.list.now c.args.count c.loop-i.i c.args.at c.size-size.result c.args.bytes.now (drafted c.loop-i.full) c.size-size.ensures c.loop-i-test.true _ c.in_err-found.ensures.says)
+    (sym s.invariant
+    ∙ lined_cut c.args.codes.list.now c.args.count s._line s.input.at c.size-size.result s.input.bytes.now (drafted s.full) c.size-size.ensures c.loop-line-test.true _ c.in_err-bytes.ensures.says)
 
 pub returns-in_err-add_line : goal.returns-in_err-add_line
 returns-in_err-add_line c =
     let p = err_from_is_err_and c.from_residual-in_err-add_line.result c.from_residual-in_err-add_line.ensures.1 in
+    let s = c.loop-line in
     rw (p.1, p.2)
-    (sym c.loop-i.invariant.0
-    ∙ lined_refused c.args.codes.list.now c.args.count c.loop-i.i c.args.at c.size-size.result c.args.bytes.now (drafted c.loop-i.full) c.size-size.ensures c.loop-i-test.true _ _ c.in_ok-found.ensures.says
-    (ap (adding (drafted c.loop-i.full)) (sym c.of.ensures) ∙ c.in_err-add_line.ensures.wrote.0))
+    (sym s.invariant
+    ∙ lined_refused c.args.codes.list.now c.args.count s._line s.input.at c.size-size.result s.input.bytes.now (drafted s.full) c.size-size.ensures c.loop-line-test.true _ _ c.in_ok-bytes.ensures.says.0
+    (ap (adding (drafted s.full)) (sym c.of.ensures) ∙ c.in_err-add_line.ensures.wrote.0))
 
-pub loop-i-preserved : goal.loop-i-preserved
-loop-i-preserved c = (
-  sym (lined_more c.args.codes.list.now c.args.count c.loop-i.i c.args.at c.size-size.result c.args.bytes.now (drafted c.loop-i.full) c.size-size.ensures c.loop-i-test.true _ _ c.in_ok-found.ensures.says
-      (ap (adding (drafted c.loop-i.full)) (sym c.of.ensures) ∙ c.in_ok-add_line.ensures.wrote))
-      ∙ c.loop-i.invariant.0,
-  omega (arith, c.in_ok-found.ensures.long.1, mul-add c.size-size.result c.loop-i.i 1, mul-one c.size-size.result),
-)
+pub loop-line-preserved : goal.loop-line-preserved
+loop-line-preserved c =
+    let s = c.loop-line in
+    let p = c.in_ok-bytes.ensures.says in
+    sym (lined_more c.args.codes.list.now c.args.count s._line s.input.at c.size-size.result s.input.bytes.now (drafted s.full) c.size-size.ensures c.loop-line-test.true _ _ _ _ p.0
+    (ap (adding (drafted s.full)) (sym c.of.ensures) ∙ c.in_ok-add_line.ensures.wrote) p.1 p.2)
+    ∙ s.invariant

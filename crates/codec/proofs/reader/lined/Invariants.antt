@@ -1,9 +1,8 @@
-use Rattle.std.proofs.Common.{◌≡◌, ◌+◌, ◌-◌, ◌*◌, ◌≤◌, length}
+use Rattle.std.proofs.Common.{◌≡◌, ◌-◌}
 use Rattle.filing.specs.Views.{drafted}
 use Rattle.codec.specs.Reading.{lined}
 use Rattle.codec.proofs.reader.lined.Given as goal
 
-abbrev pub invariant-loop-i : goal.invariant-loop-i
-invariant-loop-i l =
-    (lined l.codes.list.now (l.count - l.i) (l.at + l.size * l.i) l.bytes (drafted l.full) ≡ lined l.codes.list.now l.count l.at l.bytes (drafted l.initial.full))
-    × (l.at + l.size * l.i ≤ length l.bytes)
+abbrev pub invariant-loop-line : goal.invariant-loop-line
+invariant-loop-line l =
+    lined l.codes.list.now (l.count - l._line) l.input.at l.input.bytes.now (drafted l.full) ≡ lined l.codes.list.now l.count l.initial.input.at l.initial.input.bytes.now (drafted l.initial.full)
