@@ -1,10 +1,11 @@
 //! Why a record is not filed: the fault of the reader or the refusal of the register, whole.
-ghost use Rattle.std.specs.Prelude.{◌≡◌};
-ghost use Rattle.engine.specs.Faults.{engine_told};
+ghost use Rattle.std.specs.Prelude.{◌≡◌, Some};
+ghost use Rattle.engine.specs.Faults.{engine_told, engine_printed};
 ghost use Rattle.engine.specs.declared.faults.EngineFault.TheVariants.{Read as ReadVariant, Register as RegisterVariant};
 
 use codec::faults::ReadFault;
 use register::refusals::Refusal;
+use std::fmt;
 
 /// The fault of the layer that refused.
 #[derive(Clone, Copy)]
@@ -37,6 +38,18 @@ impl EngineFault {
         match self {
             EngineFault::Read(fault) => fault.number(),
             EngineFault::Register(refusal) => refusal.number(),
+        }
+    }
+}
+
+/// The reader's own text, or the register's number and word, as `14 stands`.
+impl fmt::Display for EngineFault {
+    ghost output = { λ f. Some (engine_printed f) };
+
+    fn fmt<W: fmt::Write>(&self, f: &mut fmt::Formatter<W>) -> fmt::Result {
+        match self {
+            EngineFault::Read(fault) => write!(f, "{fault}"),
+            EngineFault::Register(refusal) => write!(f, "{} {refusal}", refusal.number()),
         }
     }
 }

@@ -5,29 +5,38 @@ ghost use Rattle.engine.specs.Steps.{file_record as file_step, amend_record as a
 
 use crate::engine::Engine;
 use crate::faults::EngineFault;
+use crate::steps::Recorded;
 use codec::reader::read;
 use filing::draft::Draft;
 
 impl Engine {
-    /// Reads the record at the front of `bytes` and files it: the bytes used, the version and the number.
-    pub fn file_record(&mut self, bytes: &[u8]) -> Result<(usize, u16, u64), EngineFault>
+    /// Reads the record at the front of `bytes` and files it.
+    pub fn file_record(&mut self, bytes: &[u8]) -> Result<Recorded, EngineFault>
         ensures laws { Steps self.old self.new (file_step bytes.now) (record_answered result) }
         ensures refused { OnErr result (self.new ≡ self.old) }
     {
         let mut signed = Draft::blank().sign();
         let (used, version) = read(bytes, &mut signed)?;
         let number = self.register.file(signed)?;
-        Ok((used, version, number))
+        Ok(Recorded {
+            used,
+            version,
+            number,
+        })
     }
 
-    /// Reads the record at the front of `bytes` and amends by it: the bytes used, the version and the number.
-    pub fn amend_record(&mut self, bytes: &[u8]) -> Result<(usize, u16, u64), EngineFault>
+    /// Reads the record at the front of `bytes` and amends by it.
+    pub fn amend_record(&mut self, bytes: &[u8]) -> Result<Recorded, EngineFault>
         ensures laws { Steps self.old self.new (amend_step bytes.now) (record_answered result) }
         ensures refused { OnErr result (self.new ≡ self.old) }
     {
         let mut signed = Draft::blank().sign();
         let (used, version) = read(bytes, &mut signed)?;
         let amended = self.register.amend(signed)?;
-        Ok((used, version, amended))
+        Ok(Recorded {
+            used,
+            version,
+            number: amended,
+        })
     }
 }

@@ -1,25 +1,27 @@
-//! What can be done with an engine.
-use codec::faults::ReadFault;
+//! What can be done with an engine, and what is answered.
 use register::answers::Answer;
 use register::calls::Call;
 
 /// A call, or a call whose filing is the record in some bytes.
-#[derive(Drop)]
-pub enum Step {
+#[derive(Clone, Copy)]
+pub enum Step<'a> {
     Call(Call),
-    FileRecord(Vec<u8>),
-    AmendRecord(Vec<u8>),
+    FileRecord(&'a [u8]),
+    AmendRecord(&'a [u8]),
 }
 
-/// The answer to a step.
+/// A record that was filed.
+#[derive(Clone, Copy)]
+pub struct Recorded {
+    /// How many bytes it took.
+    pub used: usize,
+    pub version: u16,
+    pub number: u64,
+}
+
+/// The answer to an accepted step.
 #[derive(Clone, Copy)]
 pub enum StepAnswer {
     Call(Answer),
-    /// A record that was filed: the bytes used, the version, and the number.
-    Recorded {
-        used: usize,
-        version: u16,
-        number: u64,
-    },
-    Unread(ReadFault),
+    Recorded(Recorded),
 }

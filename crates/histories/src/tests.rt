@@ -10,6 +10,7 @@ use limit::outcome::Outcome;
 use register::answers::Answer;
 use register::calls::Call;
 use register::perform::run;
+use register::refusals::Refusal;
 use register::table::Register;
 use std::alloc::Global;
 use std::process::Abort;
@@ -105,17 +106,17 @@ enum Told {
     Refused(u64),
 }
 
-fn tell(answer: Answer) -> Told {
+fn tell(answer: Result<Answer, Refusal>) -> Told {
     match answer {
-        Answer::Enrolled => Told::Enrolled,
-        Answer::Number(number) => Told::Number(number),
-        Answer::Closed => Told::Closed,
-        Answer::Assessed(assessment) => match assessment.outcome {
+        Ok(Answer::Enrolled) => Told::Enrolled,
+        Ok(Answer::Number(number)) => Told::Number(number),
+        Ok(Answer::Closed) => Told::Closed,
+        Ok(Answer::Assessed(assessment)) => match assessment.outcome {
             Outcome::Limit(limit) => Told::Limit(limit.tonnes, assessment.number),
             Outcome::NoLimit(cause) => Told::NoLimit(cause.number(), assessment.number),
             Outcome::Fault { cause, line } => Told::Fault(cause.number(), line, assessment.number),
         },
-        Answer::Refused(refusal) => Told::Refused(refusal.number()),
+        Err(refusal) => Told::Refused(refusal.number()),
     }
 }
 
@@ -132,8 +133,8 @@ fn history(
     }
     let (register, answers) = run(heap, METHOD, &calls)?;
     assert_eq!(rt; answers.len(), table.len());
-    for (i, answer) in answers.iter().enumerate() {
-        let (_, expected) = table[i];
+    for (i, (answer, row)) in answers.iter().zip(table).enumerate() {
+        let (_, expected) = *row;
         assert_eq!(rt; tell(*answer), expected, "row {i}");
     }
     Ok(register)

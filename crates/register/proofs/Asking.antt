@@ -1,7 +1,7 @@
 -- How a call on a facility and year is answered, from what was found there.
-use Rattle.std.proofs.Common.{◌≡◌, ℕ, ◌+◌, ◌-◌, ◌≤◌, Bool, true, false, not, ◌&&◌, leb, List, [], ◌∷◌, get_or, is_some, Some, None, Option, Result, sym, refl, ap, ◌∙◌, ⊎_elim, arith}
+use Rattle.std.proofs.Common.{◌≡◌, ℕ, ◌+◌, ◌-◌, ◌≤◌, Bool, true, false, not, ◌&&◌, leb, List, [], ◌∷◌, get_or, is_some, Some, None, Option, Result, sym, refl, ap, ◌∙◌, subst, ⊎_elim, arith}
 use Rattle.std.proofs.lemmas.List.{get_or_default}
-use Rattle.std.proofs.lemmas.Bool.{cases_Bool, and_parts, leb-true, cond-true, cond-false}
+use Rattle.std.proofs.lemmas.Bool.{cases_Bool, and_parts, and_from, le-leb, leb-true, cond-true, cond-false}
 use Rattle.filing.specs.Filing.{FilingFields}
 use Rattle.filing.specs.declared.signed.Signed.{Signed}
 use Rattle.enrolment.specs.Ranges.{between}
@@ -10,11 +10,11 @@ use Rattle.limit.specs.Laws.{Meaning, Later}
 use Rattle.standard.specs.Places.{Places, filing_at, standing}
 use Rattle.register.specs.Acceptance.{Check, first_of, checks, unknown, stands, vacant, book_full, spent, refusal_of, accepted}
 use Rattle.register.specs.Answers.{refused, numbered, granted, answer_by, answer_to, number_answer}
-use Rattle.register.specs.Calls.{CallFields, file, amend, Act, filing_act, Event, acts, event_of}
+use Rattle.register.specs.Calls.{CallFields, file, amend, withdraw, Act, filing_act, Event, acts, event_of}
 use Rattle.register.specs.History.{standing_at, places_of, enrolment_of, numbers}
-use Rattle.register.specs.Lived.{Holds, Lived}
+use Rattle.register.specs.Lived.{Holds, Lived, Lives}
 use Rattle.register.specs.Refusals.{refusal_told}
-use Rattle.register.specs.Steps.{Placed, Absent, Acted}
+use Rattle.register.specs.Steps.{EnrolledBy, Absent, StandsAt, Acted}
 use Rattle.register.specs.Views.{blank_plant}
 use Rattle.register.specs.declared.refusals.Refusal.{Refusal}
 use Rattle.register.specs.declared.refusals.Refusal.TheVariants.{Unknown}
@@ -24,6 +24,10 @@ use Rattle.register.proofs.Deeds.{acted_lives}
 use Rattle.register.proofs.Keeping.{check_holds, check_passes, refused_lives}
 use Rattle.register.proofs.Plain.{no_year, enrolled_yes, enrolled_no}
 use Rattle.register.proofs.Rows.{place_of}
+
+filing_some : (o : Option Signed) → is_some (filing_at o) ≡ is_some o
+filing_some None = refl
+filing_some (Some s) = refl
 
 module _ {M : Type 0} (μ : M → Meaning) (m : M) (r : Register M) (es : List Event) (H : Holds μ m r es) where
   -- the places of a history at any year
@@ -56,18 +60,30 @@ module _ {M : Type 0} (μ : M → Meaning) (m : M) (r : Register M) (es : List E
       (λ (t : between 1 4 f ≡ false). H.no_others f t)
       (cases_Bool (between 1 4 f))
 
-  module _ (f y : ℕ) (e : Enrolment) (p : Option Signed) (placed : Placed r f y e p) where
-    pub placed_read : plant_at f ≡ get_or r.plants (f - 1) (plant_at f)
-    placed_read = plant_read f placed.low placed.high
+  module _ (f : ℕ) (e : Enrolment) (by : EnrolledBy r f e) where
+    pub by_read : plant_at f ≡ get_or r.plants (f - 1) (plant_at f)
+    by_read = plant_read f by.low by.high
 
-    pub placed_enrolled : is_some (enrolment_of es f) ≡ true
-    placed_enrolled = enrolled_yes μ m r es H f placed.low placed.high (plant_at f) placed_read e (placed.enrolment (plant_at f) placed_read)
+    pub by_enrolled : is_some (enrolment_of es f) ≡ true
+    by_enrolled = enrolled_yes μ m r es H f by.low by.high (plant_at f) by_read e (by.enrolment (plant_at f) by_read)
 
-    pub placed_stands : filing_at p ≡ standing_at es f y
-    placed_stands =
-        placed.stands (plant_at f) placed_read
-        ∙ ap (λ (ps : Places). standing ps y) (H.plants_are f placed.low placed.high (plant_at f) placed_read).places_are
+    pub read_stands : (y : ℕ) (p : Option Signed) → StandsAt r f y p → filing_at p ≡ standing_at es f y
+    read_stands y p stands =
+        stands (plant_at f) by_read
+        ∙ ap (λ (ps : Places). standing ps y) (H.plants_are f by.low by.high (plant_at f) by_read).places_are
         ∙ history_stands f y
+
+    -- a year without a place has nothing
+    pub no_place : (y : ℕ) → (between 1 4 f ≡ true → between 2017 2036 y ≡ false) → is_some (standing_at es f y) ≡ false
+    no_place y out = ap is_some (no_year μ m r es H f y (out (and_from (leb 1 f) (leb f 4) (le-leb 1 f by.low) (le-leb f 4 by.high))))
+
+    -- whether something stands, from what was read
+    pub stands_as_read : (y : ℕ) (p : Option Signed) → StandsAt r f y p → (b : Bool) → is_some p ≡ b → is_some (standing_at es f y) ≡ b
+    stands_as_read y p stands b is = sym (ap is_some (read_stands y p stands)) ∙ filing_some p ∙ is
+
+-- what was read, by its case
+pub stands_same : {M : Type 0} (r : Register M) (f y : ℕ) (p q : Option Signed) → StandsAt r f y p → p ≡ q → StandsAt r f y q
+stands_same r f y p q stands same d d-is = sym (ap filing_at same) ∙ stands d d-is
 
 -- a call that asks first for the enrolment of f, and then for one thing more
 module _ {M : Type 0} (μ : M → Meaning) (m : M) (r : Register M) (c : CallFields) (cs : List CallFields) (L : Lived μ m r cs) (f : ℕ) (second : Check) (asks : checks c (accepted cs) ≡ unknown (accepted cs) f ∷ second ∷ book_full (accepted cs) ∷ spent (accepted cs) ∷ []) where
@@ -90,16 +106,16 @@ module _ {M : Type 0} (μ : M → Meaning) (m : M) (r : Register M) (c : CallFie
     asked_passes fails = passed ∙ check_passes second (book_full (accepted cs) ∷ spent (accepted cs) ∷ []) fails
 
 -- an act that nothing refuses but the undo log and the numbers
-module _ {M : Type 0} (μ : M → Meaning) (later : (m : M) → Later (μ m)) (m : M) (r s : Register M) (c : CallFields) (cs : List CallFields) (L : Lived μ m r cs) (a : Act) (does : event_of c ≡ Some (acts a)) (grants : granted (μ m) c (accepted cs) ≡ numbered (numbers (accepted cs) + 1)) (second : Check) (asks : checks c (accepted cs) ≡ unknown (accepted cs) a.facility ∷ second ∷ book_full (accepted cs) ∷ spent (accepted cs) ∷ []) (e : Enrolment) (old v : Option Signed) (placed : Placed r a.facility a.year e old) (low : 2017 ≤ a.year) (high : a.year ≤ 2036) (passes : second.0 ≡ false) (v-is : filing_at v ≡ a.leaves) where
+module _ {M : Type 0} (μ : M → Meaning) (later : (m : M) → Later (μ m)) (m : M) (r s : Register M) (c : CallFields) (cs : List CallFields) (L : Lived μ m r cs) (a : Act) (does : event_of c ≡ Some (acts a)) (grants : granted (μ m) c (accepted cs) ≡ numbered (numbers (accepted cs) + 1)) (second : Check) (asks : checks c (accepted cs) ≡ unknown (accepted cs) a.facility ∷ second ∷ book_full (accepted cs) ∷ spent (accepted cs) ∷ []) (e : Enrolment) (by : EnrolledBy r a.facility e) (old v : Option Signed) (old-is : StandsAt r a.facility a.year old) (low : 2017 ≤ a.year) (high : a.year ≤ 2036) (passes : second.0 ≡ false) (v-is : filing_at v ≡ a.leaves) where
   pub asked_acts : (ans : Result ℕ Refusal) → Acted μ r s a.facility a.year e old v ans → Lived μ m s (c ∷ cs) × (number_answer ans ≡ answer_to (μ m) c cs)
   asked_acts ans did =
-      let read = placed_read μ m r (accepted cs) L a.facility a.year e old placed in
-      let known = placed_enrolled μ m r (accepted cs) L a.facility a.year e old placed in
+      let read = by_read μ m r (accepted cs) L a.facility e by in
+      let known = by_enrolled μ m r (accepted cs) L a.facility e by in
       let d = plant_at μ m r (accepted cs) L a.facility in
       let done =
-      acted_lives μ later m r s a placed.low placed.high low high d read e (placed.enrolment d read) old v v-is c cs L does
+      acted_lives μ later m r s a by.low by.high low high d read e (by.enrolment d read) old v v-is c cs L does
       (asked_passes μ m r c cs L a.facility second asks known passes)
-      (placed_stands μ m r (accepted cs) L a.facility a.year e old placed) ans did
+      (read_stands μ m r (accepted cs) L a.facility e by a.year old old-is) ans did
       in
       (done.0, done.1 ∙ sym (ap (answer_by (refusal_of c (accepted cs))) grants))
 
@@ -123,11 +139,7 @@ module _ (x : FilingFields) (f y : ℕ) (f-is : f ≡ x.head.facility) (y-is : y
       ap (λ (g : ℕ). unknown es g ∷ vacant es g x.head.year ∷ book_full es ∷ spent es ∷ []) (sym f-is)
       ∙ ap (λ (z : ℕ). unknown es f ∷ vacant es f z ∷ book_full es ∷ spent es ∷ []) (sym y-is)
 
-filing_some : (o : Option Signed) → is_some (filing_at o) ≡ is_some o
-filing_some None = refl
-filing_some (Some s) = refl
-
--- whether something stands, from what was read
-module _ {M : Type 0} (μ : M → Meaning) (m : M) (r : Register M) (es : List Event) (H : Holds μ m r es) (f y : ℕ) (e : Enrolment) (p : Option Signed) (placed : Placed r f y e p) where
-  pub stands_as_read : (b : Bool) → b ≡ is_some p → is_some (standing_at es f y) ≡ b
-  stands_as_read b is = sym (ap is_some (placed_stands μ m r es H f y e p placed)) ∙ filing_some p ∙ sym is
+-- a withdrawal at the place of its facility and year
+pub withdrawn_at : {M : Type 0} (μ : M → Meaning) (r s : Register M) (f y g z : ℕ) (ans : Result ℕ Refusal) → g ≡ f → z ≡ y → Lives μ r s (withdraw g z) (λ m cs. number_answer ans ≡ answer_to (μ m) (withdraw g z) cs) → Lives μ r s (withdraw f y) (λ m cs. number_answer ans ≡ answer_to (μ m) (withdraw f y) cs)
+withdrawn_at μ r s f y g z ans g-is z-is lives =
+    subst (λ (c : CallFields). Lives μ r s c (λ m cs. number_answer ans ≡ answer_to (μ m) c cs)) (ap (λ (i : ℕ). withdraw i z) g-is ∙ ap (withdraw f) z-is) lives

@@ -47,16 +47,16 @@ module _ {M : Type 0} (μ : M → Meaning) (m : M) (r : Register M) (es : List E
     known_all = subst (λ (l : List Act). AllByRecursion (Known es) (l ++ closed_acts es)) newest.1.1 H.known
 
     -- its facility is enrolled
-    pub taken_known : (d : Plant) → d ≡ get_or r.plants (entry.facility - 1) d → d.enrolment ≡ None → ⊥
+    pub taken_known : (d : Plant) → d ≡ get_or r.plants (entry.place.facility - 1) d → d.enrolment ≡ None → ⊥
     taken_known d d-is none =
-        let here : entry.facility ≡ newest.0.facility = ap (λ (l : Logged). l.facility) lines.1 in
-        let in_range = entry.facility_range in
-        true≢false (sym (ap (λ (f : ℕ). is_some (enrolment_of es f)) here ∙ known_all.0.is_enrolled) ∙ ap is_some (enrolled_no μ m r es H entry.facility in_range.0 in_range.1 d d-is none))
+        let here : entry.place.facility ≡ newest.0.facility = ap (λ (l : Logged). l.facility) lines.1 in
+        let in_range = entry.place.facility_range in
+        true≢false (sym (ap (λ (f : ℕ). is_some (enrolment_of es f)) here ∙ known_all.0.is_enrolled) ∙ ap is_some (enrolled_no μ m r es H entry.place.facility in_range.0 in_range.1 d d-is none))
 
-    pub taken_holds : ((m : M) → Later (μ m)) → (s : Register M) → vec_items s.log.entries ≡ rest → vec_len s.log.entries + 1 ≡ vec_len r.log.entries → (d : Plant) → d ≡ get_or r.plants (entry.facility - 1) d → (e : Enrolment) → d.enrolment ≡ Some e → (n : ℕ) → n ≡ r.used + 1 → s.used ≡ n → s.method ≡ r.method → Refit (μ r.method) r.plants s.plants entry.facility entry.year e entry.before n → Holds μ m s (takes_back ∷ es) × (n ≡ numbers es + 1)
+    pub taken_holds : ((m : M) → Later (μ m)) → (s : Register M) → vec_items s.log.entries ≡ rest → vec_len s.log.entries + 1 ≡ vec_len r.log.entries → (d : Plant) → d ≡ get_or r.plants (entry.place.facility - 1) d → (e : Enrolment) → d.enrolment ≡ Some e → (n : ℕ) → n ≡ r.used + 1 → s.used ≡ n → s.method ≡ r.method → Refit (μ r.method) r.plants s.plants entry.place.facility entry.place.year e entry.before n → Holds μ m s (takes_back ∷ es) × (n ≡ numbers es + 1)
     taken_holds later s left len d d-is e enrolment n number used method refit =
-        let f = entry.facility in
-        let y = entry.year in
+        let f = entry.place.facility in
+        let y = entry.place.year in
         let a = newest.0 in
         let more = newest.1.0 in
         let h = newest.1.1 in
@@ -74,7 +74,7 @@ module _ {M : Type 0} (μ : M → Meaning) (m : M) (r : Register M) (es : List E
                 let long : length (undo_log es) ≡ suc (length more) = ap length h in
                 let short : length (undo_log (takes_back ∷ es)) ≡ length more = ap length after in
                 omega (arith, H.log_len, long, short, len);
-            plants_are = refit_lives (μ m) (later m) es (takes_back ∷ es) r.plants s.plants f y e entry.before n entry.year_range.0 entry.year_range.1 events fit H.plants_are d d-is enrolment entry.facility_range.0;
+            plants_are = refit_lives (μ m) (later m) es (takes_back ∷ es) r.plants s.plants f y e entry.before n entry.place.year_range.0 entry.place.year_range.1 events fit H.plants_are d d-is enrolment entry.place.facility_range.0;
             known = subst (λ (l : List Act). AllByRecursion (Known (takes_back ∷ es)) (l ++ closed_acts es)) (sym after) (known_on es (takes_back ∷ es) (λ g k. k) (more ++ closed_acts es) known_all.1);
             no_others = H.no_others;
           },

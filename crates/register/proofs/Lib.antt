@@ -1,6 +1,5 @@
 pub mod Rows
 pub mod Refills
-pub mod Last
 pub mod Fills
 pub mod Anew
 pub mod Options

@@ -1,8 +1,8 @@
 -- What a look-up shows and answers.
-use Rattle.std.proofs.Common.{◌≡◌, ℕ, ◌-◌, ◌<◌, ◌≤◌, Bool, true, false, not, leb, ◌⊎◌, List, [], ◌∷◌, length, get_or, is_some, Some, None, Option, sym, refl, ap, ◌∙◌, ⊎_elim, arith}
-use Rattle.std.specs.Option.{option_map}
+use Rattle.std.proofs.Common.{◌≡◌, ℕ, ◌-◌, ◌≤◌, Bool, true, false, not, leb, List, [], ◌∷◌, length, get_or, is_some, Some, None, Option, sym, refl, ap, ◌∙◌, ⊎_elim, inl, inr, arith}
+use Rattle.std.specs.Option.{option_map, ok_or}
 use Rattle.std.proofs.lemmas.List.{get_or_default}
-use Rattle.std.proofs.lemmas.Bool.{cases_Bool, cond-true, cond-false, and_left, and_right, and_from, le-leb, lt-leb, true≢false, false≢true}
+use Rattle.std.proofs.lemmas.Bool.{cases_Bool, cond-true, cond-false, and_parts, and_from, le-leb, leb-true, true≢false, false≢true}
 use Rattle.enrolment.specs.Ranges.{between}
 use Rattle.enrolment.specs.Views.{enrolled}
 use Rattle.enrolment.specs.declared.enrolment.Enrolment.{Enrolment}
@@ -13,21 +13,16 @@ use Rattle.register.specs.Calls.{CallFields, look_up, Event}
 use Rattle.register.specs.History.{standing_at, enrolment_of}
 use Rattle.register.specs.Lived.{Holds, Lived}
 use Rattle.register.specs.Refusals.{refusal_told}
-use Rattle.register.specs.Views.{assessment_fields, blank_plant, shown_of, assessed_at, shown_in, shown_at}
-use Rattle.register.specs.declared.refusals.Refusal.TheVariants.{Unknown}
+use Rattle.register.specs.Steps.{EnrolledBy, Absent}
+use Rattle.register.specs.Views.{assessment_fields, blank_plant, shown_of, at_year, shown_in, shown_at, Looked, look_answer}
+use Rattle.register.specs.declared.refusals.Refusal.{Refusal}
+use Rattle.register.specs.declared.refusals.Refusal.TheVariants.{Unknown, Vacant}
 use Rattle.register.specs.declared.table.Assessment.{Assessment}
 use Rattle.register.specs.declared.table.Plant.{Plant}
 use Rattle.register.specs.declared.table.Register.{Register}
 use Rattle.register.proofs.Keeping.{check_holds, check_passes}
 use Rattle.register.proofs.Options.{none_of}
 use Rattle.register.proofs.Shown.{shown_is, vacant_none}
-
-pub outside : (least most n : ℕ) → (n < least) ⊎ ((least ≤ n) × (most < n)) → between least most n ≡ false
-outside least most n h =
-    ⊎_elim
-    (λ (low : n < least). and_left (leb least n) (leb n most) (lt-leb least n low))
-    (λ (high : (least ≤ n) × (most < n)). and_right (leb least n) (leb n most) (lt-leb n most high.1))
-    h
 
 shown_some : (o : Option Enrolment) (a : Option Assessment) → is_some o ≡ true → shown_of o a ≡ option_map assessment_fields a
 shown_some None a h = absurd (false≢true h)
@@ -49,11 +44,40 @@ module _ {M : Type 0} (r : Register M) (f y : ℕ) where
         cond-true (between 1 4 f) (shown_in (get_or r.plants (f - 1) blank_plant) y) None (and_from (leb 1 f) (leb f 4) (le-leb 1 f low) (le-leb f 4 high))
         ∙ ap (λ (d : Plant). shown_in d y) (get_or_default r.plants (f - 1) blank_plant p (omega arith))
 
-    pub shown_enrolled : is_some (get_or r.plants (f - 1) p).enrolment ≡ true → shown_at r f y ≡ option_map assessment_fields (assessed_at (get_or r.plants (f - 1) p).assessed y)
-    shown_enrolled there = shown_inside ∙ shown_some (get_or r.plants (f - 1) p).enrolment (assessed_at (get_or r.plants (f - 1) p).assessed y) there
+    pub shown_enrolled : is_some (get_or r.plants (f - 1) p).enrolment ≡ true → shown_at r f y ≡ option_map assessment_fields (at_year (get_or r.plants (f - 1) p).assessed y)
+    shown_enrolled there = shown_inside ∙ shown_some (get_or r.plants (f - 1) p).enrolment (at_year (get_or r.plants (f - 1) p).assessed y) there
 
     pub shown_absent : is_some (get_or r.plants (f - 1) p).enrolment ≡ false → shown_at r f y ≡ None
-    shown_absent gone = shown_inside ∙ shown_blank (get_or r.plants (f - 1) p).enrolment (assessed_at (get_or r.plants (f - 1) p).assessed y) gone
+    shown_absent gone = shown_inside ∙ shown_blank (get_or r.plants (f - 1) p).enrolment (at_year (get_or r.plants (f - 1) p).assessed y) gone
+
+module _ {M : Type 0} (r : Register M) (f y : ℕ) (four : length r.plants ≡ 4) where
+  -- nothing is shown of a facility that is not enrolled
+  pub shown_unknown : Absent r f → shown_at r f y ≡ None
+  shown_unknown absent =
+      elim (cases_Bool (between 1 4 f)) [
+        | inl inside ↦
+            let p = and_parts (leb 1 f) (leb f 4) inside in
+            let low = leb-true 1 f p.0 in
+            let high = leb-true f 4 p.1 in
+            let d = get_or r.plants (f - 1) blank_plant in
+            shown_absent r f y low high four blank_plant (ap is_some (absent low high d (get_or_default r.plants (f - 1) blank_plant d (omega arith))))
+        | inr out ↦ shown_outside r f y out
+      ]
+
+  -- of one that is, what is at the year
+  pub shown_known : (e : Enrolment) → EnrolledBy r f e → (d : Plant) (a : Option Assessment) → d ≡ get_or r.plants (f - 1) d → a ≡ at_year d.assessed y → shown_at r f y ≡ option_map assessment_fields a
+  shown_known e by d a d-is a-is =
+      shown_enrolled r f y by.low by.high four d (ap (λ (p : Plant). is_some p.enrolment) (sym d-is) ∙ ap is_some (by.enrolment d d-is))
+      ∙ ap (λ (p : Plant). option_map assessment_fields (at_year p.assessed y)) (sym d-is)
+      ∙ ap (option_map assessment_fields) (sym a-is)
+
+pub looked_or : (o : Option Assessment) (t : Option AssessmentFields) (w : Refusal) → t ≡ option_map assessment_fields o → Looked (ok_or o w) t
+looked_or None t w h = h
+looked_or (Some a) t w h = h
+
+pub answer_or_vacant : (o : Option Assessment) → look_answer (ok_or o Vacant) ≡ found (option_map assessment_fields o)
+answer_or_vacant None = refl
+answer_or_vacant (Some a) = refl
 
 mapped_some : {X Y : Type 0} (view : X → Y) (o : Option X) → is_some (option_map view o) ≡ is_some o
 mapped_some view None = refl

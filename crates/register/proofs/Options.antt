@@ -1,5 +1,6 @@
 -- Options, by their cases.
-use Rattle.std.proofs.Common.{◌≡◌, true, false, ◌⊎◌, is_some, Some, None, Option, refl, inl, inr, arith}
+use Rattle.std.proofs.Common.{◌≡◌, true, false, ◌⊎◌, is_some, Some, None, Option, Err, sym, refl, inl, inr, arith}
+use Rattle.std.specs.Option.{ok_or}
 use Rattle.std.proofs.lemmas.Bool.{false≢true, true≢false}
 
 pub none_some : {X : Type 0} {x : X} → None ≡ Some x → ⊥
@@ -19,3 +20,8 @@ some_of (Some x) h = (x, refl)
 pub none_of : {X : Type 0} (o : Option X) → is_some o ≡ false → o ≡ None
 none_of None h = refl
 none_of (Some x) h = absurd (true≢false h)
+
+-- the error in place of a value that is missing
+pub missing : {X E : Type 0} (o : Option X) (e f : E) → o ≡ None → Err f ≡ ok_or o e → f ≡ e
+missing None e f none is = cc
+missing (Some x) e f none is = absurd (none_some (sym none))

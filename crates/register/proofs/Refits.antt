@@ -24,14 +24,14 @@ use Rattle.register.proofs.Rows.{place_at, places_same, places_set}
 
 -- an assessment made anew is that of the events
 module _ (meaning : Meaning) (es : List Event) (f k n : ℕ) (e : EnrolmentFields) (number : n ≡ number_of es f (2017 + k)) where
-  anew_of_place : (o : Option FilingFields) → anew_of meaning e (places_of es f) k n o ≡ assessment_of meaning es f (2017 + k) (Some e) o
+  anew_of_place : (o : Option FilingFields) → anew_of meaning e (places_of es f) (2017 + k) n o ≡ assessment_of meaning es f (2017 + k) (Some e) o
   anew_of_place None = refl
   anew_of_place (Some x) = ap (λ (i : ℕ). Some (assessment (emissions x.head) (meaning e (places_of es f) (2017 + k)) i)) number
 
   anew_at : k < 20 → enrolment_of es f ≡ Some e → anew meaning e (places_of es f) k n ≡ assessment_at meaning es f (2017 + k)
   unfolding assessment_at
   anew_at lt is =
-      ap (anew_of meaning e (places_of es f) k n) (place_at es f k None lt) ∙ anew_of_place (standing_at es f (2017 + k))
+      ap (anew_of meaning e (places_of es f) (2017 + k) n) (place_at es f k None lt) ∙ anew_of_place (standing_at es f (2017 + k))
       ∙ sym (ap (λ (o : Option EnrolmentFields). assessment_of meaning es f (2017 + k) o (standing_at es f (2017 + k))) is)
 
 -- assessments that are equal since their parts are

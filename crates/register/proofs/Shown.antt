@@ -19,7 +19,7 @@ use Rattle.register.specs.History.{standing_at, places_of, enrolment_of, number_
 use Rattle.register.specs.Laws.{Figures, unnumbered}
 use Rattle.register.specs.Lived.{Known, Holds}
 use Rattle.register.specs.Striking.{unstruck}
-use Rattle.register.specs.Views.{shown_of, assessed_at, shown_in, assessment_fields, blank_plant, shown_at}
+use Rattle.register.specs.Views.{shown_of, at_year, shown_in, assessment_fields, blank_plant, shown_at}
 use Rattle.register.specs.declared.table.Assessment.{Assessment}
 use Rattle.register.specs.declared.table.Plant.{Plant}
 use Rattle.register.specs.declared.table.Register.{Register}
@@ -100,7 +100,7 @@ module _ {M : Type 0} (μ : M → Meaning) (m : M) (r : Register M) (es : List E
   abbrev plant : Plant
   plant = get_or r.plants (f - 1) blank_plant
 
-  in_year : (low : 1 ≤ f) (high : f ≤ 4) → plant ≡ get_or r.plants (f - 1) plant → option_map assessment_fields (assessed_at plant.assessed y) ≡ assessment_at (μ m) es f y
+  in_year : (low : 1 ≤ f) (high : f ≤ 4) → plant ≡ get_or r.plants (f - 1) plant → option_map assessment_fields (at_year plant.assessed y) ≡ assessment_at (μ m) es f y
   in_year low high here =
       elim (cases_Bool (between 2017 2036 y)) [
         | inl inside ↦
@@ -122,7 +122,7 @@ module _ {M : Type 0} (μ : M → Meaning) (m : M) (r : Register M) (es : List E
       let low : 1 ≤ f = leb-true 1 f g.0 in
       let high : f ≤ 4 = leb-true f 4 g.1 in
       let here : plant ≡ get_or r.plants (f - 1) plant = get_or_default r.plants (f - 1) blank_plant plant (omega (arith, holds.four)) in
-      shown_of_is plant.enrolment (assessed_at plant.assessed y) (assessment_at (μ m) es f y)
+      shown_of_is plant.enrolment (at_year plant.assessed y) (assessment_at (μ m) es f y)
       (λ none. unenrolled_none (μ m) es f y (sym (holds.plants_are f low high plant here).enrolment_is ∙ ap (option_map enrolled) none))
       (in_year low high here)
 

@@ -8,7 +8,7 @@ use Rattle.enrolment.specs.Views.{enrolled}
 use Rattle.enrolment.specs.declared.enrolment.Enrolment.{Enrolment}
 use Rattle.enrolment.specs.declared.fields.EnrolmentFields.{EnrolmentFields}
 use Rattle.limit.specs.Laws.{Meaning}
-use Rattle.standard.specs.Places.{Places, filings}
+use Rattle.standard.specs.Places.{Places}
 use Rattle.register.specs.Acceptance.{accepted}
 use Rattle.register.specs.Answers.{assessment_at}
 use Rattle.register.specs.Calls.{CallFields, close, Event, enrols, closes}
@@ -89,13 +89,11 @@ enrol_number : (e : EnrolmentFields) (es : List Event) (g z : ℕ) → number_of
 unfolding number_of
 enrol_number e es g z = refl
 
--- what the facility i holds once it has taken the enrolment
-pub record Admitted (d q : Plant) (e : Enrolment) : Type 0 where
-  pub places : q.places ≡ d.places
-  pub assessed : q.assessed ≡ d.assessed
-  pub enrolment : q.enrolment ≡ Some e
+-- a facility that has taken the enrolment
+abbrev pub admitted : Plant → Enrolment → Plant
+admitted d e = record { enrolment = Some e; places = d.places; assessed = d.assessed }
 
-module _ {M : Type 0} (μ : M → Meaning) (m : M) (r s : Register M) (es : List Event) (H : Holds μ m r es) (x : EnrolmentFields) (lo : 1 ≤ x.facility) (hi : x.facility ≤ 4) (d q : Plant) (d-is : d ≡ get_or r.plants (x.facility - 1) d) (none : d.enrolment ≡ None) (e : Enrolment) (e-is : enrolled e ≡ x) (admitted : Admitted d q e) (method : s.method ≡ r.method) (plants : s.plants ≡ set r.plants (x.facility - 1) q) (used : s.used ≡ r.used) (log : s.log ≡ r.log) where
+module _ {M : Type 0} (μ : M → Meaning) (m : M) (r s : Register M) (es : List Event) (H : Holds μ m r es) (x : EnrolmentFields) (lo : 1 ≤ x.facility) (hi : x.facility ≤ 4) (d : Plant) (d-is : d ≡ get_or r.plants (x.facility - 1) d) (none : d.enrolment ≡ None) (e : Enrolment) (e-is : enrolled e ≡ x) (method : s.method ≡ r.method) (plants : s.plants ≡ set r.plants (x.facility - 1) (admitted d e)) (used : s.used ≡ r.used) (log : s.log ≡ r.log) where
   nothing : (y : ℕ) → standing_at es x.facility y ≡ None
   nothing y = unenrolled_vacant es x.facility y H.known (ap is_some (enrolled_no μ m r es H x.facility lo hi d d-is none))
 
@@ -105,14 +103,14 @@ module _ {M : Type 0} (μ : M → Meaning) (m : M) (r s : Register M) (es : List
       vacant_none (μ m) es x.facility y (nothing y)
       ∙ sym (vacant_none (μ m) (enrols x ∷ es) x.facility y (sym (enrol_standing x es x.facility y) ∙ nothing y))
 
-  enrolled_here : PlantLived (μ m) (enrols x ∷ es) x.facility q
+  enrolled_here : PlantLived (μ m) (enrols x ∷ es) x.facility (admitted d e)
   enrolled_here =
       let was = H.plants_are x.facility lo hi d d-is in
       record {
-        enrolment_is = ap (option_map enrolled) admitted.enrolment ∙ ap Some e-is ∙ sym (cond-true (eqb x.facility x.facility) (Some x) (enrolment_of es x.facility) (eq-eqb x.facility x.facility refl));
-        places_are = ap filings admitted.places ∙ was.places_are ∙ places_same es (enrols x ∷ es) x.facility x.facility (enrol_standing x es x.facility);
+        enrolment_is = ap Some e-is ∙ sym (cond-true (eqb x.facility x.facility) (Some x) (enrolment_of es x.facility) (eq-eqb x.facility x.facility refl));
+        places_are = was.places_are ∙ places_same es (enrols x ∷ es) x.facility x.facility (enrol_standing x es x.facility);
         assessed_are = λ k lt.
-            ap (λ l. option_map assessment_fields (get_or l k None)) admitted.assessed ∙ was.assessed_are k lt ∙ vacant_still (2017 + k);
+            was.assessed_are k lt ∙ vacant_still (2017 + k);
       }
 
   off : (g : ℕ) → g ≢ x.facility → enrolment_of es g ≡ enrolment_of (enrols x ∷ es) g
@@ -122,21 +120,21 @@ module _ {M : Type 0} (μ : M → Meaning) (m : M) (r s : Register M) (es : List
   enrol_holds =
       record {
         method_is = method ∙ H.method_is;
-        four = ap length plants ∙ length-set r.plants (x.facility - 1) q ∙ H.four;
+        four = ap length plants ∙ length-set r.plants (x.facility - 1) (admitted d e) ∙ H.four;
         used_is = used ∙ H.used_is;
         log_is = ap (λ l. map logged (vec_items l.entries)) log ∙ H.log_is;
         log_len = ap (λ l. vec_len l.entries) log ∙ H.log_len;
         plants_are = λ g g-lo g-hi p p-is.
-            let p-set : p ≡ get_or (set r.plants (x.facility - 1) q) (g - 1) p = p-is ∙ ap (λ (l : List Plant). get_or l (g - 1) p) plants in
+            let p-set : p ≡ get_or (set r.plants (x.facility - 1) (admitted d e)) (g - 1) p = p-is ∙ ap (λ (l : List Plant). get_or l (g - 1) p) plants in
             ⊎_elim
             (λ (eq : g ≡ x.facility).
             let within : x.facility - 1 < length r.plants = omega (arith, H.four) in
-            let is : p ≡ q = p-set ∙ ap (λ (i : ℕ). get_or (set r.plants (x.facility - 1) q) (i - 1) p) eq ∙ get_or-set_same r.plants (x.facility - 1) q p within in
-            subst (λ (p : Plant). PlantLived (μ m) (enrols x ∷ es) g p) (sym is) (subst (λ (j : ℕ). PlantLived (μ m) (enrols x ∷ es) j q) (sym eq) enrolled_here))
+            let is : p ≡ admitted d e = p-set ∙ ap (λ (i : ℕ). get_or (set r.plants (x.facility - 1) (admitted d e)) (i - 1) p) eq ∙ get_or-set_same r.plants (x.facility - 1) (admitted d e) p within in
+            subst (λ (p : Plant). PlantLived (μ m) (enrols x ∷ es) g p) (sym is) (subst (λ (j : ℕ). PlantLived (μ m) (enrols x ∷ es) j (admitted d e)) (sym eq) enrolled_here))
             (λ (ne : g ≢ x.facility).
             let apart : g - 1 ≢ x.facility - 1 = omega arith in
             plant_same (μ m) es (enrols x ∷ es) g p (enrol_standing x es g) (off g ne) (enrol_number x es g)
-            (H.plants_are g g-lo g-hi p (p-set ∙ get_or-set_other r.plants (x.facility - 1) (g - 1) q p apart)))
+            (H.plants_are g g-lo g-hi p (p-set ∙ get_or-set_other r.plants (x.facility - 1) (g - 1) (admitted d e) p apart)))
             (cases_eq g x.facility);
         known = known_on es (enrols x ∷ es) (λ f h. some_stays (eqb x.facility f) x (enrolment_of es f) h) (unstruck es) H.known;
         no_others = λ g out.

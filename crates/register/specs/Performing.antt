@@ -13,17 +13,12 @@ use Rattle.register.specs.declared.calls.Call.{Call}
 use Rattle.register.specs.declared.refusals.Refusal.{Refusal}
 use Rattle.register.specs.declared.table.Register.{Register}
 
-abbrev pub answered : Answer → Answered
-answered answer.Enrolled = enrolled
-answered (answer.Number n) = numbered n
-answered answer.Closed = closed
-answered (answer.Assessed a) = assessed (assessment_fields a)
-answered (answer.Refused w) = refused (refusal_told w)
-
--- an accepted call's own answer, or the refusal
-abbrev pub answer_or : {X : Type 0} → (X → Answer) → Result X Refusal → Answer
-answer_or own (Ok x) = own x
-answer_or own (Err w) = answer.Refused w
+abbrev pub answered : Result Answer Refusal → Answered
+answered (Ok answer.Enrolled) = enrolled
+answered (Ok (answer.Number n)) = numbered n
+answered (Ok answer.Closed) = closed
+answered (Ok (answer.Assessed a)) = assessed (assessment_fields a)
+answered (Err w) = refused (refusal_told w)
 
 -- the calls as they were made, oldest first
 abbrev pub said : List Call → List CallFields
@@ -38,16 +33,16 @@ module _ {M : Type 0} (μ : M → Meaning) where
   abbrev pub Performs : Register M → Register M → CallFields → Answered → Type 0
   Performs r s c a = (m : M) (cs : List CallFields) → Lived μ m r cs → Laws μ m (c ∷ cs) s × (a ≡ answer_to (μ m) c cs)
 
-  -- a refusal changes nothing
-  abbrev pub KeptIf : Answer → Register M → Register M → Type 0
-  KeptIf (answer.Refused w) r s = s ≡ r
-  KeptIf answer.Enrolled r s = Unit {0}
-  KeptIf (answer.Number n) r s = Unit {0}
-  KeptIf answer.Closed r s = Unit {0}
-  KeptIf (answer.Assessed a) r s = s ≡ r
+  -- a refusal changes nothing, and nor does a look-up
+  abbrev pub KeptIf : Result Answer Refusal → Register M → Register M → Type 0
+  KeptIf (Ok answer.Enrolled) r s = Unit {0}
+  KeptIf (Ok (answer.Number n)) r s = Unit {0}
+  KeptIf (Ok answer.Closed) r s = Unit {0}
+  KeptIf (Ok (answer.Assessed a)) r s = s ≡ r
+  KeptIf (Err w) r s = s ≡ r
 
   -- a whole history: the laws hold at its end, and the k-th answer is what its first k calls make of the next
-  pub record Ran (m : M) (calls : List Call) (r : Register M) (answers : List Answer) : Type 0 where
+  pub record Ran (m : M) (calls : List Call) (r : Register M) (answers : List (Result Answer Refusal)) : Type 0 where
     pub laws : Laws μ m (history_of calls) r
     pub all : length answers ≡ length calls
-    pub each : (k : ℕ) (c : Call) (a : Answer) → k < length calls → answered (slice_index_or answers k a) ≡ answer_to (μ m) (call_fields (slice_index_or calls k c)) (history_of (take k calls))
+    pub each : (k : ℕ) (c : Call) (a : Result Answer Refusal) → k < length calls → answered (slice_index_or answers k a) ≡ answer_to (μ m) (call_fields (slice_index_or calls k c)) (history_of (take k calls))

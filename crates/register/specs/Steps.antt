@@ -1,5 +1,5 @@
 -- What the parts of a register hold after a place is filled anew.
-use Rattle.std.specs.Prelude.{◌≡◌, ℕ, ◌+◌, ◌-◌, ◌<◌, ◌≤◌, true, List, [], ◌∷◌, ◌++◌, map, length, is_some, Some, None, vec_items, vec_len, Option, Result, MatchResult, ◌≢◌, slice_index_or, slice_set}
+use Rattle.std.specs.Prelude.{◌≡◌, ℕ, ◌+◌, ◌-◌, ◌<◌, ◌≤◌, List, [], ◌∷◌, ◌++◌, map, length, Some, None, vec_items, vec_len, Option, Result, MatchResult, ◌≢◌, slice_index_or, slice_set}
 use Rattle.std.specs.Option.{option_map}
 use Rattle.filing.specs.declared.signed.Signed.{Signed}
 use Rattle.enrolment.specs.Views.{enrolled}
@@ -11,7 +11,6 @@ use Rattle.register.specs.declared.refusals.Refusal.{Refusal}
 use Rattle.register.specs.declared.refusals.Refusal.TheVariants.{Unknown, Enrolled, Enrolment as BadEnrolment, Stands, Vacant, Book, Bare, Spent}
 use Rattle.register.specs.declared.table.Plant.{Plant}
 use Rattle.register.specs.declared.table.Register.{Register}
-use Rattle.register.specs.declared.table.Standing.{Standing}
 
 -- the place i holds v, and the places from there on are assessed anew with the number n
 pub record Refilled (meaning : Meaning) (p q : Plant) (i : ℕ) (e : Enrolment) (v : Option Signed) (n : ℕ) : Type 0 where
@@ -27,9 +26,8 @@ pub record Refit (meaning : Meaning) (ps qs : List Plant) (f y : ℕ) (e : Enrol
   pub others : (k : ℕ) (d : Plant) → (k ≢ f - 1) → slice_index_or qs k d ≡ slice_index_or ps k d
 
 module _ {M : Type 0} (μ : M → Meaning) where
-  -- the next number is used for it
+  -- so in a register, and the number is used for it
   pub record Put (r s : Register M) (f y : ℕ) (e : Enrolment) (v : Option Signed) (n : ℕ) : Type 0 where
-    pub number : n ≡ r.used + 1
     pub used : s.used ≡ n
     pub method : s.method ≡ r.method
     pub log : s.log ≡ r.log
@@ -60,17 +58,23 @@ module _ {M : Type 0} (μ : M → Meaning) where
   abbrev pub Acted : Register M → Register M → ℕ → ℕ → Enrolment → Option Signed → Option Signed → Result ℕ Refusal → Type 0
   Acted r s f y e old v ans = MatchResult ans (Done r s f y e old v) (λ w. (s ≡ r) × Full r w)
 
--- the facility f is enrolled by e, and p stands at its place of the year y; a year without a place has nothing
-pub record Placed {M : Type 0} (r : Register M) (f y : ℕ) (e : Enrolment) (p : Option Signed) : Type 0 where
+-- the next number, where it is not above the last
+abbrev pub NextNumber : ℕ → Result ℕ Refusal → Type 0
+NextNumber used ans = MatchResult ans (λ n. (used < 1000000) × (n ≡ used + 1)) (λ w. (w ≡ Spent) × (1000000 ≤ used))
+
+-- the facility f is one of the four, and enrolled by e
+pub record EnrolledBy {M : Type 0} (r : Register M) (f : ℕ) (e : Enrolment) : Type 0 where
   pub low : 1 ≤ f
   pub high : f ≤ 4
   pub enrolment : (d : Plant) → d ≡ slice_index_or r.plants (f - 1) d → d.enrolment ≡ Some e
-  pub stands : (d : Plant) → d ≡ slice_index_or r.plants (f - 1) d → filing_at p ≡ standing (filings d.places) y
-  pub year : is_some p ≡ true → (2017 ≤ y) × (y ≤ 2036)
 
 -- the facility f is not enrolled
 abbrev pub Absent : {M : Type 0} → Register M → ℕ → Type 0
 Absent r f = 1 ≤ f → f ≤ 4 → (d : Plant) → d ≡ slice_index_or r.plants (f - 1) d → d.enrolment ≡ None
 
-abbrev pub Found : {M : Type 0} → Register M → ℕ → ℕ → Result Standing Refusal → Type 0
-Found r f y ans = MatchResult ans (λ x. Placed r f y x.enrolment x.filing) (λ w. (w ≡ Unknown) × Absent r f)
+abbrev pub Sought : {M : Type 0} → Register M → ℕ → Result Enrolment Refusal → Type 0
+Sought r f ans = MatchResult ans (EnrolledBy r f) (λ w. (w ≡ Unknown) × Absent r f)
+
+-- p stands at the place of the facility f and the year y; a year without a place has nothing
+abbrev pub StandsAt : {M : Type 0} → Register M → ℕ → ℕ → Option Signed → Type 0
+StandsAt r f y p = (d : Plant) → d ≡ slice_index_or r.plants (f - 1) d → filing_at p ≡ standing (filings d.places) y

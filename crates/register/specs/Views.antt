@@ -33,15 +33,16 @@ pub record Logged : Type 0 where
   pub before : Option FilingFields
 
 abbrev pub logged : Entry → Logged
-logged e = record { facility = e.facility; year = e.year; before = filing_at e.before }
+logged e = record { facility = e.place.facility; year = e.place.year; before = filing_at e.before }
 
+-- the assessment that is made with the number n of a filing of the year y, from an enrolment and a facility's places
 abbrev pub anew_of : Meaning → EnrolmentFields → Places → ℕ → ℕ → Option FilingFields → Option AssessmentFields
-anew_of meaning e ps k n None = None
-anew_of meaning e ps k n (Some x) = Some (assessment (emissions_of x.head) (meaning e ps (2017 + k)) n)
+anew_of meaning e ps y n None = None
+anew_of meaning e ps y n (Some x) = Some (assessment (emissions_of x.head) (meaning e ps y) n)
 
--- the assessment that is made with the number n at the place k, from an enrolment and a facility's places
+-- the same of what stands at the place k
 abbrev pub anew : Meaning → EnrolmentFields → Places → ℕ → ℕ → Option AssessmentFields
-anew meaning e ps k n = anew_of meaning e ps k n (slice_index_or ps k None)
+anew meaning e ps k n = anew_of meaning e ps (2017 + k) n (slice_index_or ps k None)
 
 abbrev pub blank_plant : Plant
 blank_plant = record { enrolment = None; places = replicate 20 None; assessed = replicate 20 None }
@@ -51,12 +52,12 @@ abbrev pub shown_of : Option Enrolment → Option Assessment → Option Assessme
 shown_of None a = None
 shown_of (Some e) a = option_map assessment_fields a
 
--- the assessment of a year; years outside 2017 to 2036 have none
-abbrev pub assessed_at : List (Option Assessment) → ℕ → Option Assessment
-assessed_at made y = cond (between 2017 2036 y) (slice_index_or made (y - 2017) None) None
+-- what is at a year; years outside 2017 to 2036 have nothing
+abbrev pub at_year : {X : Type 0} → List (Option X) → ℕ → Option X
+at_year xs y = cond (between 2017 2036 y) (slice_index_or xs (y - 2017) None) None
 
 abbrev pub shown_in : Plant → ℕ → Option AssessmentFields
-shown_in p y = shown_of p.enrolment (assessed_at p.assessed y)
+shown_in p y = shown_of p.enrolment (at_year p.assessed y)
 
 -- what a look-up shows of a register
 unfoldable pub shown_at : {M : Type 0} → Register M → ℕ → ℕ → Option AssessmentFields

@@ -1,39 +1,22 @@
 //! How a facility's places are assessed anew.
-ghost use Rattle.std.specs.Prelude.{◌≡◌, ℕ, ◌+◌, ◌<◌, ◌≤◌, None as none, slice_index_or};
+ghost use Rattle.std.specs.Prelude.{◌≡◌, ℕ, ◌<◌, ◌≤◌, None as none, slice_index_or};
 ghost use Rattle.std.specs.Option.{option_map};
 ghost use Rattle.filing.specs.Emissions.{emissions as emissions_of};
 ghost use Rattle.filing.specs.Views.{filed};
 ghost use Rattle.enrolment.specs.Views.{enrolled};
 ghost use Rattle.limit.specs.Outcome.{told};
-ghost use Rattle.standard.specs.Places.{filings};
+ghost use Rattle.standard.specs.Places.{filings, standing};
 ghost use Rattle.register.specs.Answers.{assessment};
-ghost use Rattle.register.specs.Views.{assessment_fields, anew};
+ghost use Rattle.register.specs.Views.{assessment_fields, anew_of, anew};
 
+use crate::looking::at_year;
+use crate::places::{FIRST_YEAR, PLACES};
 use crate::table::Assessment;
 use enrolment::enrolment::Enrolment;
 use filing::signed::Signed;
 use limit::balance::balance;
 use limit::method::LimitMethod;
 use limit::outcome::Outcome;
-
-/// The year of the first place.
-pub(crate) const FIRST_YEAR: u64 = 2017;
-
-/// How many places there are.
-pub(crate) const PLACES: usize = 20;
-
-/// The method's outcome of a place's year.
-fn outcome_of<M: LimitMethod>(
-    method: &M,
-    enrolment: &Enrolment,
-    places: &[Option<Signed>; 20],
-    i: usize,
-) -> Outcome
-    requires { i < 20 }
-    ensures { told result ≡ M.LimitMethod.meaning method.now (enrolled enrolment.now) (filings places.now) (2017 + i) }
-{
-    method.outcome(enrolment, places, FIRST_YEAR + i as u64)
-}
 
 /// The assessment of a filing by its outcome.
 fn assessment_of(signed: &Signed, outcome: Outcome, number: u64) -> Assessment
@@ -48,25 +31,19 @@ fn assessment_of(signed: &Signed, outcome: Outcome, number: u64) -> Assessment
     }
 }
 
-/// The assessment of a place, where a filing stands there.
+/// The assessment of a year, where a filing stands there.
 fn fresh<M: LimitMethod>(
     method: &M,
     enrolment: &Enrolment,
     places: &[Option<Signed>; 20],
-    i: usize,
+    year: u64,
     number: u64,
 ) -> Option<Assessment>
-    requires { i < 20 }
-    ensures { option_map assessment_fields result ≡ anew (M.LimitMethod.meaning method.now) (enrolled enrolment.now) (filings places.now) i number }
+    ensures { option_map assessment_fields result ≡ anew_of (M.LimitMethod.meaning method.now) (enrolled enrolment.now) (filings places.now) year number (standing (filings places.now) year) }
 {
-    let place = &places[i];
-    match place {
-        None => None,
-        Some(signed) => {
-            let outcome = outcome_of(method, enrolment, places, i);
-            Some(assessment_of(signed, outcome, number))
-        }
-    }
+    let signed = at_year(places, year)?;
+    let outcome = method.outcome(enrolment, places, year);
+    Some(assessment_of(&signed, outcome, number))
 }
 
 /// Assesses the places from one on anew, with a number.
@@ -78,11 +55,11 @@ pub(crate) fn reassess<M: LimitMethod>(
     from: usize,
     number: u64,
 )
-    requires { from ≤ 20 }
     ensures before { (k : ℕ) → k < from → slice_index_or assessed.new k none ≡ slice_index_or assessed.old k none }
     ensures after { (k : ℕ) → from ≤ k → k < 20 → option_map assessment_fields (slice_index_or assessed.new k none) ≡ anew (M.LimitMethod.meaning method.now) (enrolled enrolment.now) (filings places.now) k number }
 {
+    // Tried with `iter_mut().enumerate().skip(from)`: past a `skip` the check knows no element that was not written.
     for i in from..PLACES {
-        assessed[i] = fresh(method, enrolment, places, i, number);
+        assessed[i] = fresh(method, enrolment, places, FIRST_YEAR + i as u64, number);
     }
 }

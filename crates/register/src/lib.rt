@@ -9,5 +9,6 @@ mod filling;
 mod log;
 mod looking;
 pub mod perform;
+mod places;
 pub mod refusals;
 pub mod table;

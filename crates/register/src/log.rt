@@ -1,20 +1,18 @@
 //! The undo log: the acts since the last close that no take-back has struck.
-ghost use Rattle.std.specs.Prelude.{◌≡◌, ◌+◌, ◌-◌, ◌<◌, ◌≤◌, [], ◌∷◌, ◌++◌, take, IfOk, vec_len, vec_capacity};
+ghost use Rattle.std.specs.Prelude.{◌≡◌, ◌+◌, ◌-◌, ◌<◌, ◌≤◌, [], ◌∷◌, ◌++◌, take, IfOk, MatchOption, vec_len, vec_capacity};
 
+use crate::places::Place;
 use filing::signed::Signed;
 use std::alloc::{AllocError, Global};
 
 /// The most acts that the undo log holds.
 pub(crate) const MOST_ACTS: usize = 32;
 
-/// An act: its facility and year, and what stood there before it.
+/// An act: its place, and what stood there before it.
 #[derive(Clone, Copy)]
 pub(crate) struct Entry {
-    pub(crate) facility: u64,
-    pub(crate) year: u64,
+    pub(crate) place: Place,
     pub(crate) before: Option<Signed>,
-    ghost facility_range: { (1 ≤ facility) × (facility ≤ 4) },
-    ghost year_range: { (2017 ≤ year) × (year ≤ 2036) },
 }
 
 /// The acts, the latest last. Their room is reserved when the log is made.
@@ -50,19 +48,16 @@ impl UndoLog {
     }
 
     /// The latest act.
-    pub(crate) fn latest(&self) -> Entry
-        requires { 0 < vec_len self.now.entries }
-        ensures { self.now.entries.items ≡ take (vec_len self.now.entries - 1) self.now.entries.items ++ result ∷ [] }
+    pub(crate) fn latest(&self) -> Option<Entry>
+        ensures { MatchOption result (vec_len self.now.entries ≡ 0) (λ e. (0 < vec_len self.now.entries) × (self.now.entries.items ≡ take (vec_len self.now.entries - 1) self.now.entries.items ++ e ∷ [])) }
     {
-        let n = self.entries.len();
-        self.entries[n - 1]
+        self.entries.last().copied()
     }
 
-    /// Removes the latest act.
+    /// Removes the latest act, where there is one.
     pub(crate) fn strike(&mut self)
-        requires { 0 < vec_len self.old.entries }
         ensures items { self.new.entries.items ≡ take (vec_len self.old.entries - 1) self.old.entries.items }
-        ensures len { vec_len self.new.entries + 1 ≡ vec_len self.old.entries }
+        ensures len { vec_len self.new.entries ≡ vec_len self.old.entries - 1 }
     {
         let _ = self.entries.pop();
     }

@@ -1,11 +1,13 @@
 //! Why a register refuses a call.
 ghost use Rattle.std.specs.Prelude.{◌≡◌, Some};
 ghost use Rattle.register.specs.Refusals.{refusal_told, refusal_word};
+ghost use Rattle.register.specs.declared.refusals.Refusal.TheVariants.{Enrolment};
 
+use enrolment::faults::EnrolmentFault;
 use std::fmt;
 
 /// A register's refusal of a call, which then changes nothing.
-#[derive(Clone, Copy)]
+#[derive(Clone, Copy, Debug, PartialEq, Eq)]
 pub enum Refusal {
     /// The facility is not enrolled.
     Unknown,
@@ -23,6 +25,16 @@ pub enum Refusal {
     Bare,
     /// The last number is used.
     Spent,
+}
+
+impl From<EnrolmentFault> for Refusal {
+    ghost from_gives = { λ e r. r ≡ Enrolment };
+
+    fn from(fault: EnrolmentFault) -> Refusal {
+        match fault {
+            EnrolmentFault::Outside => Refusal::Enrolment,
+        }
+    }
 }
 
 impl Refusal {

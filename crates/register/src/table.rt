@@ -24,13 +24,6 @@ pub(crate) struct Plant {
     pub(crate) assessed: [Option<Assessment>; 20],
 }
 
-/// A facility's enrolment, and what stands at one of its places.
-#[derive(Clone, Copy)]
-pub(crate) struct Standing {
-    pub(crate) enrolment: Enrolment,
-    pub(crate) filing: Option<Signed>,
-}
-
 /// The register of four facilities. It has no ghost field of its own, so that a facility can be changed in place.
 #[derive(Drop)]
 pub struct Register<M> {

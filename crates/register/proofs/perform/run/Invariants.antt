@@ -1,10 +1,11 @@
-use Rattle.std.proofs.Common.{◌≡◌, ℕ, ◌<◌, ◌≤◌, length, get_or, take, vec_items, vec_len, vec_capacity}
+use Rattle.std.proofs.Common.{◌≡◌, ℕ, ◌<◌, ◌≤◌, length, get_or, take, vec_items, vec_len, vec_capacity, Result}
 use Rattle.register.specs.Answers.{answer_to}
 use Rattle.register.specs.Calls.{call_fields}
 use Rattle.register.specs.Laws.{Laws}
 use Rattle.register.specs.Performing.{answered, history_of}
 use Rattle.register.specs.declared.answers.Answer.{Answer}
 use Rattle.register.specs.declared.calls.Call.{Call}
+use Rattle.register.specs.declared.refusals.Refusal.{Refusal}
 use Rattle.register.proofs.perform.run.Given as goal
 
 -- the method has moved into the register, so it goes by the register's own field where the loop began
@@ -13,4 +14,4 @@ invariant-loop-call g l =
     Laws g.M.LimitMethod.meaning l.initial.register.method (history_of (take l.call-index l.calls)) l.register
     × (vec_len l.answers ≡ l.call-index)
     × (length l.calls ≤ vec_capacity l.answers)
-    × ((k : ℕ) (c : Call) (a : Answer) → k < l.call-index → answered (get_or (vec_items l.answers) k a) ≡ answer_to (g.M.LimitMethod.meaning l.initial.register.method) (call_fields (get_or l.calls k c)) (history_of (take k l.calls)))
+    × ((k : ℕ) (c : Call) (a : Result Answer Refusal) → k < l.call-index → answered (get_or (vec_items l.answers) k a) ≡ answer_to (g.M.LimitMethod.meaning l.initial.register.method) (call_fields (get_or l.calls k c)) (history_of (take k l.calls)))

@@ -1,40 +1,35 @@
-use Rattle.std.proofs.Common.{sym, refl, ap, ◌∙◌, subst}
+use Rattle.std.proofs.Common.{◌≡◌, Ok, Err, sym, refl, ap, ◌∙◌, rules}
+use Rattle.std.proofs.lemmas.Result.{err_from_is_err_and}
 use Rattle.register.specs.Calls.{call_fields}
-use Rattle.engine.specs.Engine.{step_fields, step_answered, record_answered, StepKept}
-use Rattle.engine.specs.Steps.{said, file_record, amend_record}
+use Rattle.register.specs.Performing.{answered}
+use Rattle.engine.specs.Engine.{step_fields, step_answered, record_answered}
+use Rattle.engine.specs.Steps.{said, file_record, amend_record, answers}
 use Rattle.engine.proofs.Recorded.{engine_of}
-use Rattle.engine.proofs.Stepping.{stepped, call_steps, record_same, record-kept}
+use Rattle.engine.proofs.Stepping.{stepped, call_steps}
 use Rattle.engine.proofs.engine.Engine.perform.Goals as goal
 
-pub returns-in-Call : goal.returns-in-Call
-returns-in-Call c =
+pub returns-in_err-perform-in-Call-clause-laws : goal.returns-in_err-perform-in-Call-clause-laws
+returns-in_err-perform-in-Call-clause-laws c =
     let g = c.args.self.now in
     let h = engine_of c.perform.new.self in
-    record {
-      laws = stepped g h (said (call_fields c.in-Call.call)) _ _ _ (ap step_fields c.in-Call.is) refl (call_steps g h c.in-Call.call c.perform.result c.perform.ensures.laws);
-      refused = c.perform.ensures.refused;
-    }
+    let w = c.in_err-perform-in-Call.field-0.0 in
+    let p = err_from_is_err_and c.from_residual.result c.from_residual.ensures.1 in
+    rw (p.1, p.2)
+    (stepped g h (said (call_fields c.in-Call.call)) _ _ (answers (answered (Err w))) (ap step_fields c.in-Call.is) refl (call_steps g h c.in-Call.call (Err w) c.in_err-perform-in-Call.ensures.laws))
 
-pub returns-in-FileRecord : goal.returns-in-FileRecord
-returns-in-FileRecord c =
+pub returns-in_ok-perform-in-Call-clause-laws : goal.returns-in_ok-perform-in-Call-clause-laws
+returns-in_ok-perform-in-Call-clause-laws c =
     let g = c.args.self.now in
-    let h = c.file_record.new.self in
-    record {
-      laws =
-          stepped g h (file_record c.deref.result.now) (step_fields c.args.step.now) (step_answered c.recorded.result) (record_answered c.file_record.result)
-          (ap step_fields c.in-FileRecord.is ∙ ap file_record (sym c.deref.ensures.value))
-          (ap step_answered c.recorded.ensures ∙ record_same c.file_record.result) c.file_record.ensures.laws;
-      refused = subst (λ a. StepKept a g h) (sym c.recorded.ensures) (record-kept g h c.file_record.result c.file_record.ensures.refused);
-    }
+    let h = engine_of c.perform.new.self in
+    let a = c.in_ok-perform-in-Call.field-0 in
+    stepped g h (said (call_fields c.in-Call.call)) _ _ (answers (answered (Ok a))) (ap step_fields c.in-Call.is) refl (call_steps g h c.in-Call.call (Ok a) c.in_ok-perform-in-Call.ensures.laws)
 
-pub returns-in-AmendRecord : goal.returns-in-AmendRecord
-returns-in-AmendRecord c =
-    let g = c.args.self.now in
-    let h = c.amend_record.new.self in
-    record {
-      laws =
-          stepped g h (amend_record c.deref-in-AmendRecord.result.now) (step_fields c.args.step.now) (step_answered c.recorded-in-AmendRecord.result) (record_answered c.amend_record.result)
-          (ap step_fields c.in-AmendRecord.is ∙ ap amend_record (sym c.deref-in-AmendRecord.ensures.value))
-          (ap step_answered c.recorded-in-AmendRecord.ensures ∙ record_same c.amend_record.result) c.amend_record.ensures.laws;
-      refused = subst (λ a. StepKept a g h) (sym c.recorded-in-AmendRecord.ensures) (record-kept g h c.amend_record.result c.amend_record.ensures.refused);
-    }
+pub returns-in-FileRecord-clause-laws : goal.returns-in-FileRecord-clause-laws
+returns-in-FileRecord-clause-laws c =
+    let same : step_answered c.map.result ≡ record_answered c.file_record.result = search rules in
+    stepped c.args.self.now c.file_record.new.self (file_record c.in-FileRecord.bytes.now) _ _ (record_answered c.file_record.result) (ap step_fields c.in-FileRecord.is) same c.file_record.ensures.laws
+
+pub returns-in-AmendRecord-clause-laws : goal.returns-in-AmendRecord-clause-laws
+returns-in-AmendRecord-clause-laws c =
+    let same : step_answered c.map-in-AmendRecord.result ≡ record_answered c.amend_record.result = search rules in
+    stepped c.args.self.now c.amend_record.new.self (amend_record c.in-AmendRecord.bytes.now) _ _ (record_answered c.amend_record.result) (ap step_fields c.in-AmendRecord.is) same c.amend_record.ensures.laws

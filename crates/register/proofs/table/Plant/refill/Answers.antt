@@ -7,12 +7,13 @@ use Rattle.register.proofs.table.Plant.refill.Goals as goal
 
 pub returns : goal.returns
 returns g c =
-    let placed = map-set filing_at c.args.self.now.places c.args.i c.args.content in
-    record {
+    let placed = map-set filing_at c.args.self.now.places c.year_index-i.result c.args.content in
+    rw (← c.year_index-i.ensures.value)
+    (record {
       enrolment = refl;
       places = placed;
       before = c.reassess.ensures.before;
       after = λ k lo hi.
           c.reassess.ensures.after k lo hi
           ∙ ap (λ ps. anew (g.M.LimitMethod.meaning c.args.method.now) (enrolled c.args.enrolment.now) ps k c.args.number) placed;
-    }
+    })

@@ -1,4 +1,4 @@
-use Rattle.std.proofs.Common.{◌≡◌, ◌-◌, ◌<◌, ◌≤◌, length, get_or, is_some, sym, refl, ap, ◌∙◌, arith, rules}
+use Rattle.std.proofs.Common.{◌≡◌, ◌-◌, ◌<◌, length, get_or, is_some, sym, refl, ap, ◌∙◌, arith, rules}
 use Rattle.std.proofs.lemmas.List.{get_or_default}
 use Rattle.enrolment.specs.Views.{enrolled}
 use Rattle.register.specs.Acceptance.{accepted}
@@ -9,33 +9,27 @@ use Rattle.register.proofs.Options.{none_of}
 use Rattle.register.proofs.Starts.{enrol_holds}
 use Rattle.register.proofs.table.Register.enrol.Goals as goal
 
-pub returns-then-is_taken : goal.returns-then-is_taken
-returns-then-is_taken g c =
-    let e = c.in-Ok.enrolment in
-    record {
-      lives = λ m cs L.
-          enrolled_twice g.M.LimitMethod.meaning m c.args.self.now c.args.fields cs L e c.in-Ok.ensures.0 c.in-Ok.ensures.1
-          (enrolled_as_read g.M.LimitMethod.meaning m c.args.self.now (accepted cs) L e.facility e.facility_range.0 e.facility_range.1 c.index-self-i.result _
-          (sym c.is_taken.ensures ∙ c.if-is_taken.true));
-      refused = refl;
-    }
+pub returns-then-is_some-clause-lives : goal.returns-then-is_some-clause-lives
+returns-then-is_some-clause-lives g c =
+    let e = c.in_ok-enrolment.enrolment in
+    let made = c.in_ok-enrolment.ensures in
+    λ m cs L.
+    enrolled_twice g.M.LimitMethod.meaning m c.args.self.now c.args.fields cs L e made.0 made.1
+    (enrolled_as_read g.M.LimitMethod.meaning m c.args.self.now (accepted cs) L e.facility e.facility_range.0 e.facility_range.1 c.index-self-i.result _
+    (sym c.is_some.ensures ∙ c.if-is_some.true))
 
-pub returns : goal.returns
-returns g c =
-    let e = c.in-Ok.enrolment in
+pub returns-clause-lives : goal.returns-clause-lives
+returns-clause-lives g c =
+    let e = c.in_ok-enrolment.enrolment in
+    let made = c.in_ok-enrolment.ensures in
     let r = c.args.self.now in
     let i = e.facility - 1 in
     let p = c.index-self-i-2.result in
-    let low : 1 ≤ e.facility = e.facility_range.0 in
-    let high : e.facility ≤ 4 = e.facility_range.1 in
     let four : length r.plants ≡ 4 = search rules in
     let within : e.facility - 1 < length r.plants = omega arith in
-    let gone = sym (ap (λ (d : Plant). is_some d.enrolment) (get_or_default r.plants i c.index-self-i.result p within)) ∙ sym c.is_taken.ensures ∙ c.if-is_taken.false in
-    record {
-      lives = λ m cs L.
-          enrolled_once g.M.LimitMethod.meaning m r c.args.fields cs L e c.in-Ok.ensures.0 c.in-Ok.ensures.1 _
-          (enrolled_as_read g.M.LimitMethod.meaning m r (accepted cs) L e.facility low high p _ gone)
-          (enrol_holds g.M.LimitMethod.meaning m r _ (accepted cs) L (enrolled e) low high (get_or r.plants i p) c.admit.new.self (get_or_default r.plants i p (get_or r.plants i p) within)
-          (none_of (get_or r.plants i p).enrolment gone) e refl (record { places = c.admit.ensures.places; assessed = c.admit.ensures.assessed; enrolment = c.admit.ensures.enrolled }) refl refl refl refl);
-      refused = tt;
-    }
+    let gone = sym (ap (λ (d : Plant). is_some d.enrolment) (get_or_default r.plants i c.index-self-i.result p within)) ∙ sym c.is_some.ensures ∙ c.if-is_some.false in
+    λ m cs L.
+    enrolled_once g.M.LimitMethod.meaning m r c.args.fields cs L e made.0 made.1 _
+    (enrolled_as_read g.M.LimitMethod.meaning m r (accepted cs) L e.facility e.facility_range.0 e.facility_range.1 p _ gone)
+    (enrol_holds g.M.LimitMethod.meaning m r _ (accepted cs) L (enrolled e) e.facility_range.0 e.facility_range.1 (get_or r.plants i p) (get_or_default r.plants i p (get_or r.plants i p) within)
+    (none_of (get_or r.plants i p).enrolment gone) e refl refl refl refl refl)

@@ -1,64 +1,41 @@
-use Rattle.std.proofs.Common.{◌≡◌, not, length, is_some, Some, None, sym, ap, ◌∙◌, rules}
+use Rattle.std.proofs.Common.{◌≡◌, length, is_some, ap, sym, ◌∙◌, rules}
 use Rattle.std.specs.Option.{option_map}
+use Rattle.std.proofs.lemmas.Result.{err_from_is_err_and}
 use Rattle.register.specs.Acceptance.{accepted}
-use Rattle.register.specs.Views.{assessment_fields}
-use Rattle.register.proofs.Looks.{outside, shown_outside, shown_enrolled, shown_absent, enrolled_as_read, look_unknown, look_enrolled}
+use Rattle.register.specs.Views.{assessment_fields, at_year}
+use Rattle.register.specs.declared.refusals.Refusal.TheVariants.{Vacant}
+use Rattle.register.proofs.Asking.{absent_none, by_enrolled}
+use Rattle.register.proofs.Looks.{shown_unknown, shown_known, looked_or, answer_or_vacant, look_unknown, look_enrolled}
 use Rattle.register.proofs.table.Register.look_up.Goals as goal
 
-pub returns-then-facility-lt1 : goal.returns-then-facility-lt1
-returns-then-facility-lt1 g c =
-    let f = c.args.facility in
-    let out = outside 1 4 f c.then-facility-lt1.either in
-    record {
-      shows = shown_outside c.args.self.now f c.args.year out;
-      answers = λ m cs L. look_unknown g.M.LimitMethod.meaning m c.args.self.now cs L f c.args.year (ap is_some (L.no_others f out));
-    }
-
-pub returns-then-is_none : goal.returns-then-is_none
-returns-then-is_none g c =
+pub returns-in_err-enrolment_of : goal.returns-in_err-enrolment_of
+returns-in_err-enrolment_of g c =
     let f = c.args.facility in
     let four : length c.args.self.now.plants ≡ 4 = search rules in
-    let p = c.index-plants-facility.result in
-    let gone = c.is_none.ensures ∙ ap not c.if-is_none.true in
-    record {
-      shows = shown_absent c.args.self.now f c.args.year c.if-facility-lt1.false c.if-facility-gt-FACILITIES.false four p gone;
+    let p = err_from_is_err_and c.from_residual.result c.from_residual.ensures.1 in
+    rw (p.1, p.2, c.in_err-enrolment_of.ensures.0)
+    (record {
+      shows = shown_unknown c.args.self.now f c.args.year four c.in_err-enrolment_of.ensures.1;
       answers = λ m cs L.
           look_unknown g.M.LimitMethod.meaning m c.args.self.now cs L f c.args.year
-          (enrolled_as_read g.M.LimitMethod.meaning m c.args.self.now (accepted cs) L f c.if-facility-lt1.false c.if-facility-gt-FACILITIES.false p _ gone);
-    }
+          (ap is_some (absent_none g.M.LimitMethod.meaning m c.args.self.now (accepted cs) L f c.in_err-enrolment_of.ensures.1));
+    })
 
-pub returns-in-Some : goal.returns-in-Some
-returns-in-Some g c =
+pub returns : goal.returns
+returns g c =
     let f = c.args.facility in
     let four : length c.args.self.now.plants ≡ 4 = search rules in
-    let p = c.index-plants-facility.result in
-    let there = c.is_none.ensures ∙ ap not c.if-is_none.false in
+    let by = c.in_ok-enrolment_of.ensures in
     let shows =
-    shown_enrolled c.args.self.now f c.args.year c.if-facility-lt1.false c.if-facility-gt-FACILITIES.false four p there
-    ∙ ap (option_map assessment_fields) (sym c.assessed_at.ensures ∙ c.in-Some.is)
+    shown_known c.args.self.now f c.args.year four c.in_ok-enrolment_of.field-0 by c.index-self-facility.result c.at_year.result c.index-self-facility.is
+    (c.at_year.ensures ∙ sym (ap (λ d. at_year d.assessed c.args.year) c.index-self-facility.is))
     in
-    record {
-      shows = shows;
+    rw c.ok_or.ensures.value
+    (record {
+      shows = looked_or c.at_year.result _ Vacant shows;
       answers = λ m cs L.
-          look_enrolled g.M.LimitMethod.meaning m c.args.self.now cs L f c.args.year
-          (enrolled_as_read g.M.LimitMethod.meaning m c.args.self.now (accepted cs) L f c.if-facility-lt1.false c.if-facility-gt-FACILITIES.false p _ there)
-          (Some (assessment_fields c.in-Some.assessment)) shows;
-    }
-
-pub returns-in-None : goal.returns-in-None
-returns-in-None g c =
-    let f = c.args.facility in
-    let four : length c.args.self.now.plants ≡ 4 = search rules in
-    let p = c.index-plants-facility.result in
-    let there = c.is_none.ensures ∙ ap not c.if-is_none.false in
-    let shows =
-    shown_enrolled c.args.self.now f c.args.year c.if-facility-lt1.false c.if-facility-gt-FACILITIES.false four p there
-    ∙ ap (option_map assessment_fields) (sym c.assessed_at.ensures ∙ c.in-None.is)
-    in
-    record {
-      shows = shows;
-      answers = λ m cs L.
-          look_enrolled g.M.LimitMethod.meaning m c.args.self.now cs L f c.args.year
-          (enrolled_as_read g.M.LimitMethod.meaning m c.args.self.now (accepted cs) L f c.if-facility-lt1.false c.if-facility-gt-FACILITIES.false p _ there)
-          None shows;
-    }
+          answer_or_vacant c.at_year.result
+          ∙ look_enrolled g.M.LimitMethod.meaning m c.args.self.now cs L f c.args.year
+          (by_enrolled g.M.LimitMethod.meaning m c.args.self.now (accepted cs) L f c.in_ok-enrolment_of.field-0 by)
+          (option_map assessment_fields c.at_year.result) shows;
+    })

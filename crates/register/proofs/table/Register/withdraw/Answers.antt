@@ -1,52 +1,62 @@
-use Rattle.std.proofs.Common.{not, None, sym, refl, ap, ◌∙◌}
+use Rattle.std.proofs.Common.{ℕ, not, Some, None, Err, sym, refl, ap, subst}
+use Rattle.std.proofs.lemmas.Result.{err_from_is_err_and}
 use Rattle.register.specs.Acceptance.{vacant, accepted}
 use Rattle.register.specs.Calls.{withdraw, withdrawal}
-use Rattle.register.proofs.Asking.{asked_unknown, asked_second, asked_acts, placed_enrolled, stands_as_read}
-use Rattle.register.proofs.Deeds.{acted_refused}
+use Rattle.register.specs.Steps.{EnrolledBy}
+use Rattle.register.specs.declared.refusals.Refusal.TheVariants.{Vacant}
+use Rattle.register.proofs.Asking.{asked_unknown, asked_second, asked_acts, withdrawn_at, by_enrolled, no_place, stands_as_read, stands_same}
+use Rattle.register.proofs.Options.{missing}
 use Rattle.register.proofs.table.Register.withdraw.Goals as goal
 
-pub returns-in_default : goal.returns-in_default
-returns-in_default g c =
+pub returns-in_err-enrolment-clause-lives : goal.returns-in_err-enrolment-clause-lives
+returns-in_err-enrolment-clause-lives g c =
     let f = c.args.facility in
     let y = c.args.year in
-    record {
-      lives = λ m cs L. asked_unknown g.M.LimitMethod.meaning m c.args.self.now (withdraw f y) cs L f (vacant (accepted cs) f y) refl c.in_default.ensures.1;
-      refused = refl;
-    }
+    let p = err_from_is_err_and c.from_residual.result c.from_residual.ensures.1 in
+    rw (p.1, p.2, c.in_err-enrolment.ensures.0)
+    (λ m cs L. asked_unknown g.M.LimitMethod.meaning m c.args.self.now (withdraw f y) cs L f (vacant (accepted cs) f y) refl c.in_err-enrolment.ensures.1)
 
-pub returns-then-is_none : goal.returns-then-is_none
-returns-then-is_none g c =
+pub returns-in_err-place-clause-lives : goal.returns-in_err-place-clause-lives
+returns-in_err-place-clause-lives g c =
     let f = c.args.facility in
     let y = c.args.year in
-    let e = c.in-Ok.place.enrolment in
-    let p = c.in-Ok.place.filing in
-    let placed = c.in-Ok.ensures in
-    record {
-      lives = λ m cs L.
-          asked_second g.M.LimitMethod.meaning m c.args.self.now (withdraw f y) cs L f (vacant (accepted cs) f y) refl
-          (placed_enrolled g.M.LimitMethod.meaning m c.args.self.now (accepted cs) L f y e p placed)
-          (ap not (stands_as_read g.M.LimitMethod.meaning m c.args.self.now (accepted cs) L f y e p placed _ (sym (c.is_none.ensures ∙ ap not c.if-is_none.true))));
-      refused = refl;
-    }
+    let e = c.in_ok-enrolment.enrolment in
+    let p = err_from_is_err_and c.from_residual-in_err-place.result c.from_residual-in_err-place.ensures.1 in
+    let why = missing c.new.result Vacant _ c.in_err-place.ensures.ok_part c.in_err-place.ensures.value in
+    let out = rw c.in_err-place.ensures.ok_part at c.new.ensures in
+    rw (p.1, p.2, why)
+    (λ m cs L.
+    asked_second g.M.LimitMethod.meaning m c.args.self.now (withdraw f y) cs L f (vacant (accepted cs) f y) refl
+    (by_enrolled g.M.LimitMethod.meaning m c.args.self.now (accepted cs) L f e c.in_ok-enrolment.ensures)
+    (ap not (no_place g.M.LimitMethod.meaning m c.args.self.now (accepted cs) L f e c.in_ok-enrolment.ensures y out)))
 
-pub act-requires : goal.act-requires
-act-requires g c =
-    let placed = c.in-Ok.ensures in
-    record { known = (placed.low, placed.high); placed = placed.year (c.is_none.ensures ∙ ap not c.if-is_none.false) }
+pub returns-in_err-before-clause-lives : goal.returns-in_err-before-clause-lives
+returns-in_err-before-clause-lives g c =
+    let f = c.in_ok-place.place.facility in
+    let y = c.in_ok-place.place.year in
+    let e = c.in_ok-enrolment.enrolment in
+    let is = rw c.in_ok-place.ensures.ok_part at c.new.ensures in
+    let by = subst (λ (i : ℕ). EnrolledBy c.args.self.now i e) (sym is.0) c.in_ok-enrolment.ensures in
+    let p = err_from_is_err_and c.from_residual-in_err-before.result c.from_residual-in_err-before.ensures.1 in
+    let why = missing c.standing.result Vacant _ c.in_err-before.ensures.ok_part c.in_err-before.ensures.value in
+    rw (p.1, p.2, why)
+    (withdrawn_at g.M.LimitMethod.meaning c.args.self.now c.args.self.now c.args.facility c.args.year f y (Err Vacant) is.0 is.1
+    (λ m cs L.
+    asked_second g.M.LimitMethod.meaning m c.args.self.now (withdraw f y) cs L f (vacant (accepted cs) f y) refl
+    (by_enrolled g.M.LimitMethod.meaning m c.args.self.now (accepted cs) L f e by)
+    (ap not (stands_as_read g.M.LimitMethod.meaning m c.args.self.now (accepted cs) L f e by y c.standing.result c.standing.ensures _ (sym c.in_err-before.ensures.variant)))))
 
-pub returns : goal.returns
-returns g c =
-    let f = c.args.facility in
-    let y = c.args.year in
-    let e = c.in-Ok.place.enrolment in
-    let p = c.in-Ok.place.filing in
-    let placed = c.in-Ok.ensures in
-    let years = placed.year (c.is_none.ensures ∙ ap not c.if-is_none.false) in
-    record {
-      lives = λ m cs L.
-          asked_acts g.M.LimitMethod.meaning g.met.M.LimitMethod.later m c.args.self.now c.act.new.self (withdraw f y) cs L (withdrawal f y) refl refl
-          (vacant (accepted cs) f y) refl e p None placed years.0 years.1
-          (ap not (stands_as_read g.M.LimitMethod.meaning m c.args.self.now (accepted cs) L f y e p placed _ (sym (c.is_none.ensures ∙ ap not c.if-is_none.false))))
-          refl c.act.result c.act.ensures;
-      refused = acted_refused g.M.LimitMethod.meaning c.args.self.now c.act.new.self f y e p None c.act.result c.act.ensures;
-    }
+pub returns-clause-lives : goal.returns-clause-lives
+returns-clause-lives g c =
+    let f = c.in_ok-place.place.facility in
+    let y = c.in_ok-place.place.year in
+    let e = c.in_ok-enrolment.enrolment in
+    let is = rw c.in_ok-place.ensures.ok_part at c.new.ensures in
+    let by = subst (λ (i : ℕ). EnrolledBy c.args.self.now i e) (sym is.0) c.in_ok-enrolment.ensures in
+    withdrawn_at g.M.LimitMethod.meaning c.args.self.now c.act.new.self c.args.facility c.args.year f y c.act.result is.0 is.1
+    (λ m cs L.
+    asked_acts g.M.LimitMethod.meaning g.met.M.LimitMethod.later m c.args.self.now c.act.new.self (withdraw f y) cs L (withdrawal f y) refl refl
+    (vacant (accepted cs) f y) refl e by (Some c.in_ok-before.before) None
+    (stands_same c.args.self.now f y c.standing.result _ c.standing.ensures c.in_ok-before.ensures.ok_part) c.in_ok-place.place.year_range.0 c.in_ok-place.place.year_range.1
+    (ap not (stands_as_read g.M.LimitMethod.meaning m c.args.self.now (accepted cs) L f e by y c.standing.result c.standing.ensures _ (sym c.in_ok-before.ensures.variant)))
+    refl c.act.result c.act.ensures)

@@ -1,0 +1,67 @@
+//! Which places there are. Nothing cited here names the type, so that definitions above may.
+ghost use Rattle.std.specs.Prelude.{◌≡◌, ◌-◌, ◌<◌, ◌≤◌, true, false, MatchOption};
+ghost use Rattle.filing.specs.Views.{filed};
+ghost use Rattle.enrolment.specs.Ranges.{between};
+
+use filing::signed::Signed;
+
+/// How many facilities there are.
+pub(crate) const FACILITIES: u64 = 4;
+
+/// The first year that has a place.
+pub(crate) const FIRST_YEAR: u64 = 2017;
+
+/// How many places a facility has.
+pub(crate) const PLACES: usize = 20;
+
+/// The last year that has a place.
+pub(crate) const LAST_YEAR: u64 = 2036;
+
+/// A place of the table: one of the four facilities, and one of the twenty years.
+#[derive(Clone, Copy)]
+pub(crate) struct Place {
+    pub(crate) facility: u64,
+    pub(crate) year: u64,
+    ghost facility_range: { (1 ≤ facility) × (facility ≤ 4) },
+    ghost year_range: { (2017 ≤ year) × (year ≤ 2036) },
+}
+
+impl Place {
+    /// The place of a facility and year, where there is one.
+    pub(crate) fn new(facility: u64, year: u64) -> Option<Place>
+        ensures { MatchOption result (between 1 4 facility ≡ true → between 2017 2036 year ≡ false) (λ p. (p.facility ≡ facility) × (p.year ≡ year)) }
+    {
+        if facility < 1 || facility > FACILITIES || year < FIRST_YEAR || year > LAST_YEAR {
+            return None;
+        }
+        Some(Place { facility, year })
+    }
+
+    /// The place that a filing is for.
+    pub(crate) fn of(signed: &Signed) -> Place
+        ensures facility { result.facility ≡ (filed signed.now).head.facility }
+        ensures year { result.year ≡ (filed signed.now).head.year }
+    {
+        let head = signed.filing().head();
+        Place {
+            facility: u64::from(head.facility),
+            year: u64::from(head.year),
+        }
+    }
+
+    /// Where its facility stands among the four.
+    pub(crate) fn facility_index(self) -> usize
+        ensures value { result ≡ self.facility - 1 }
+        ensures within { result < 4 }
+    {
+        (self.facility - 1) as usize
+    }
+
+    /// Where its year stands among the twenty.
+    pub(crate) fn year_index(self) -> usize
+        ensures value { result ≡ self.year - 2017 }
+        ensures within { result < 20 }
+    {
+        (self.year - FIRST_YEAR) as usize
+    }
+}
