@@ -9,9 +9,9 @@ use Rattle.enrolment.specs.declared.fields.EnrolmentFields.{EnrolmentFields}
 use Rattle.limit.specs.Balance.{balance}
 use Rattle.limit.specs.Laws.{Meaning}
 use Rattle.limit.specs.Outcome as outcome
-use Rattle.standard.specs.Places.{Places, filing_at, filings, standing}
+use Rattle.standard.specs.Places.{Places, at_year, filing_at, filings, standing}
 use Rattle.register.specs.Answers.{AssessmentFields, assessment}
-use Rattle.register.specs.Views.{anew_of, anew, at_year}
+use Rattle.register.specs.Views.{anew_of, anew}
 
 -- what stands at a year
 pub standing_read : (ps : List (Option Signed)) (y : ℕ) (o : Option Signed) → o ≡ at_year ps y → filing_at o ≡ standing (filings ps) y

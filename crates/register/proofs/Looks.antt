@@ -14,7 +14,8 @@ use Rattle.register.specs.History.{standing_at, enrolment_of}
 use Rattle.register.specs.Lived.{Holds, Lived}
 use Rattle.register.specs.Refusals.{refusal_told}
 use Rattle.register.specs.Steps.{EnrolledBy, Absent}
-use Rattle.register.specs.Views.{assessment_fields, blank_plant, shown_of, at_year, shown_in, shown_at, Looked, look_answer}
+use Rattle.standard.specs.Places.{at_year}
+use Rattle.register.specs.Views.{assessment_fields, blank_plant, shown_of, shown_in, shown_at, Looked, look_answer}
 use Rattle.register.specs.declared.refusals.Refusal.{Refusal}
 use Rattle.register.specs.declared.refusals.Refusal.TheVariants.{Unknown, Vacant}
 use Rattle.register.specs.declared.table.Assessment.{Assessment}

@@ -12,14 +12,14 @@ use Rattle.enrolment.specs.declared.enrolment.Enrolment.{Enrolment}
 use Rattle.enrolment.specs.declared.fields.EnrolmentFields.{EnrolmentFields}
 use Rattle.limit.specs.Balance.{balance}
 use Rattle.limit.specs.Laws.{Meaning}
-use Rattle.standard.specs.Places.{Places}
+use Rattle.standard.specs.Places.{at_year, Places}
 use Rattle.register.specs.Answers.{AssessmentFields, assessment, assessment_of, assessment_at}
 use Rattle.register.specs.Calls.{Event}
 use Rattle.register.specs.History.{standing_at, places_of, enrolment_of, number_of}
 use Rattle.register.specs.Laws.{Figures, unnumbered}
 use Rattle.register.specs.Lived.{Known, Holds}
 use Rattle.register.specs.Striking.{unstruck}
-use Rattle.register.specs.Views.{shown_of, at_year, shown_in, assessment_fields, blank_plant, shown_at}
+use Rattle.register.specs.Views.{shown_of, shown_in, assessment_fields, blank_plant, shown_at}
 use Rattle.register.specs.declared.table.Assessment.{Assessment}
 use Rattle.register.specs.declared.table.Plant.{Plant}
 use Rattle.register.specs.declared.table.Register.{Register}

@@ -8,7 +8,7 @@ use Rattle.enrolment.specs.declared.enrolment.Enrolment.{Enrolment}
 use Rattle.enrolment.specs.declared.fields.EnrolmentFields.{EnrolmentFields}
 use Rattle.limit.specs.Laws.{Meaning}
 use Rattle.limit.specs.Outcome.{told}
-use Rattle.standard.specs.Places.{Places, filing_at}
+use Rattle.standard.specs.Places.{Places, at_year, filing_at}
 use Rattle.register.specs.Answers.{AssessmentFields, assessment, Answered, assessed, refused}
 use Rattle.register.specs.Refusals.{refusal_told}
 use Rattle.register.specs.declared.log.Entry.{Entry}
@@ -51,10 +51,6 @@ blank_plant = record { enrolment = None; places = replicate 20 None; assessed = 
 abbrev pub shown_of : Option Enrolment → Option Assessment → Option AssessmentFields
 shown_of None a = None
 shown_of (Some e) a = option_map assessment_fields a
-
--- what is at a year; years outside 2017 to 2036 have nothing
-abbrev pub at_year : {X : Type 0} → List (Option X) → ℕ → Option X
-at_year xs y = cond (between 2017 2036 y) (slice_index_or xs (y - 2017) None) None
 
 abbrev pub shown_in : Plant → ℕ → Option AssessmentFields
 shown_in p y = shown_of p.enrolment (at_year p.assessed y)

@@ -2,27 +2,29 @@
 ghost use Rattle.std.specs.Prelude.{◌≡◌, ℕ, ◌<◌, ◌≤◌, None as none, slice_index_or};
 ghost use Rattle.std.specs.Option.{option_map};
 ghost use Rattle.filing.specs.Emissions.{emissions as emissions_of};
-ghost use Rattle.filing.specs.Views.{filed};
+ghost use Rattle.filing.specs.Views.{fields_of};
 ghost use Rattle.enrolment.specs.Views.{enrolled};
 ghost use Rattle.limit.specs.Outcome.{told};
 ghost use Rattle.standard.specs.Places.{filings, standing};
 ghost use Rattle.register.specs.Answers.{assessment};
 ghost use Rattle.register.specs.Views.{assessment_fields, anew_of, anew};
 
-use crate::looking::at_year;
-use crate::places::{FIRST_YEAR, PLACES};
+use crate::places::PLACES;
 use crate::table::Assessment;
 use enrolment::enrolment::Enrolment;
+use filing::filing::Filing;
 use filing::signed::Signed;
 use limit::balance::balance;
 use limit::method::LimitMethod;
 use limit::outcome::Outcome;
+use standard::facility::FacilityYear;
+use standard::places::FIRST_YEAR;
 
 /// The assessment of a filing by its outcome.
-fn assessment_of(signed: &Signed, outcome: Outcome, number: u64) -> Assessment
-    ensures { assessment_fields result ≡ assessment (emissions_of (filed signed.now).head) (told outcome) number }
+fn assessment_of(filing: &Filing, outcome: Outcome, number: u64) -> Assessment
+    ensures { assessment_fields result ≡ assessment (emissions_of (fields_of filing.now).head) (told outcome) number }
 {
-    let emissions = signed.filing().emissions();
+    let emissions = filing.emissions();
     Assessment {
         emissions,
         outcome,
@@ -32,18 +34,11 @@ fn assessment_of(signed: &Signed, outcome: Outcome, number: u64) -> Assessment
 }
 
 /// The assessment of a year, where a filing stands there.
-fn fresh<M: LimitMethod>(
-    method: &M,
-    enrolment: &Enrolment,
-    places: &[Option<Signed>; 20],
-    year: u64,
-    number: u64,
-) -> Option<Assessment>
-    ensures { option_map assessment_fields result ≡ anew_of (M.LimitMethod.meaning method.now) (enrolled enrolment.now) (filings places.now) year number (standing (filings places.now) year) }
+fn fresh<M: LimitMethod>(method: &M, at: FacilityYear<'_>, number: u64) -> Option<Assessment>
+    ensures { option_map assessment_fields result ≡ anew_of (M.LimitMethod.meaning method.now) (enrolled at.entry.enrolment.now) (filings at.entry.places.now) at.entry.year number (standing (filings at.entry.places.now) at.entry.year) }
 {
-    let signed = at_year(places, year)?;
-    let outcome = method.outcome(enrolment, places, year);
-    Some(assessment_of(&signed, outcome, number))
+    let filing = at.filing()?;
+    Some(assessment_of(filing, method.outcome(at), number))
 }
 
 /// Assesses the places from one on anew, with a number.
@@ -60,6 +55,11 @@ pub(crate) fn reassess<M: LimitMethod>(
 {
     // Tried with `iter_mut().enumerate().skip(from)`: past a `skip` the check knows no element that was not written.
     for i in from..PLACES {
-        assessed[i] = fresh(method, enrolment, places, FIRST_YEAR + i as u64, number);
+        let at = FacilityYear {
+            enrolment,
+            places,
+            year: FIRST_YEAR + i as u64,
+        };
+        assessed[i] = fresh(method, at, number);
     }
 }

@@ -5,24 +5,15 @@ ghost use Rattle.register.specs.Answers.{answer_to};
 ghost use Rattle.register.specs.Calls.{CallFields, look_up};
 ghost use Rattle.register.specs.Lived.{Lived};
 ghost use Rattle.register.specs.Steps.{Sought, StandsAt};
-ghost use Rattle.register.specs.Views.{at_year, shown_at, Looked, look_answer};
+ghost use Rattle.register.specs.Views.{shown_at, Looked, look_answer};
 
-use crate::places::{FACILITIES, FIRST_YEAR, LAST_YEAR, Place};
+use crate::places::{FACILITIES, Place};
 use crate::refusals::Refusal;
 use crate::table::{Assessment, Register};
 use enrolment::enrolment::Enrolment;
 use filing::signed::Signed;
 use limit::method::LimitMethod;
-
-/// What is at a year, which may be any number.
-pub(crate) fn at_year<T: Copy>(places: &[Option<T>; 20], year: u64) -> Option<T>
-    ensures { result ≡ at_year places.now year }
-{
-    if year < FIRST_YEAR || year > LAST_YEAR {
-        return None;
-    }
-    places[(year - FIRST_YEAR) as usize]
-}
+use standard::places::at_year;
 
 impl<M: LimitMethod> Register<M> {
     /// The enrolment of a facility, which may be any number.
@@ -41,7 +32,7 @@ impl<M: LimitMethod> Register<M> {
     pub(crate) fn standing(&self, place: Place) -> Option<Signed>
         ensures { StandsAt self.now place.facility place.year result }
     {
-        at_year(&self.plants[place.facility_index()].places, place.year)
+        at_year(&self.plants[place.facility_index()].places, place.year).copied()
     }
 
     /// The assessment of a facility and year.
@@ -51,6 +42,8 @@ impl<M: LimitMethod> Register<M> {
     {
         self.enrolment_of(facility)?;
         let plant = &self.plants[(facility - 1) as usize];
-        at_year(&plant.assessed, year).ok_or(Refusal::Vacant)
+        at_year(&plant.assessed, year)
+            .copied()
+            .ok_or(Refusal::Vacant)
     }
 }

@@ -4,12 +4,10 @@ ghost use Rattle.filing.specs.Views.{filed};
 ghost use Rattle.enrolment.specs.Ranges.{between};
 
 use filing::signed::Signed;
+use standard::places::FIRST_YEAR;
 
 /// How many facilities there are.
 pub(crate) const FACILITIES: u64 = 4;
-
-/// The first year that has a place.
-pub(crate) const FIRST_YEAR: u64 = 2017;
 
 /// How many places a facility has.
 pub(crate) const PLACES: usize = 20;

@@ -2,7 +2,8 @@ use Rattle.std.proofs.Common.{◌≡◌, length, is_some, ap, sym, ◌∙◌, ru
 use Rattle.std.specs.Option.{option_map}
 use Rattle.std.proofs.lemmas.Result.{err_from_is_err_and}
 use Rattle.register.specs.Acceptance.{accepted}
-use Rattle.register.specs.Views.{assessment_fields, at_year}
+use Rattle.standard.specs.Places.{at_year}
+use Rattle.register.specs.Views.{assessment_fields}
 use Rattle.register.specs.declared.refusals.Refusal.TheVariants.{Vacant}
 use Rattle.register.proofs.Asking.{absent_none, by_enrolled}
 use Rattle.register.proofs.Looks.{shown_unknown, shown_known, looked_or, answer_or_vacant, look_unknown, look_enrolled}
@@ -27,15 +28,15 @@ returns g c =
     let four : length c.args.self.now.plants ≡ 4 = search rules in
     let by = c.in_ok-enrolment_of.ensures in
     let shows =
-    shown_known c.args.self.now f c.args.year four c.in_ok-enrolment_of.field-0 by c.index-self-facility.result c.at_year.result c.index-self-facility.is
-    (c.at_year.ensures ∙ sym (ap (λ d. at_year d.assessed c.args.year) c.index-self-facility.is))
+    shown_known c.args.self.now f c.args.year four c.in_ok-enrolment_of.field-0 by c.index-self-facility.result c.copied.result c.index-self-facility.is
+    (c.copied.ensures ∙ c.at_year.ensures.value ∙ sym (ap (λ d. at_year d.assessed c.args.year) c.index-self-facility.is))
     in
     rw c.ok_or.ensures.value
     (record {
-      shows = looked_or c.at_year.result _ Vacant shows;
+      shows = looked_or c.copied.result _ Vacant shows;
       answers = λ m cs L.
-          answer_or_vacant c.at_year.result
+          answer_or_vacant c.copied.result
           ∙ look_enrolled g.M.LimitMethod.meaning m c.args.self.now cs L f c.args.year
           (by_enrolled g.M.LimitMethod.meaning m c.args.self.now (accepted cs) L f c.in_ok-enrolment_of.field-0 by)
-          (option_map assessment_fields c.at_year.result) shows;
+          (option_map assessment_fields c.copied.result) shows;
     })
