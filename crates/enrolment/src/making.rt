@@ -1,7 +1,7 @@
 //! How an enrolment is made from bare numbers, and which years it leaves without a limit.
 ghost use Rattle.std.specs.Prelude.{◌≡◌};
 ghost use Rattle.enrolment.specs.Exempt.{first_year, exempt as exempt_year, FirstYear};
-ghost use Rattle.enrolment.specs.Ranges.{between, Lawful};
+ghost use Rattle.enrolment.specs.Ranges.{Lawful};
 ghost use Rattle.enrolment.specs.Views.{enrolled, Enrols};
 
 use crate::calendar::days_in;
@@ -9,12 +9,6 @@ use crate::enrolment::Enrolment;
 use crate::faults::EnrolmentFault;
 use crate::fields::EnrolmentFields;
 use crate::kinds::{Choice, EnrolmentKind};
-
-fn is_between(least: u64, most: u64, n: u64) -> bool
-    ensures { result ≡ between least most n }
-{
-    least <= n && n <= most
-}
 
 /// The enrolment as bare numbers.
 impl From<Enrolment> for EnrolmentFields {
@@ -39,10 +33,10 @@ impl Enrolment {
     {
         let kind = EnrolmentKind::try_from(fields.kind)?;
         let choice = Choice::try_from(fields.choice)?;
-        if !is_between(1, 4, fields.facility)
-            || !is_between(1900, 2036, fields.year)
-            || !is_between(1, days_in(fields.year), fields.day)
-            || !is_between(1, 100, fields.factor)
+        if !(1..=4).contains(&fields.facility)
+            || !(1900..=2036).contains(&fields.year)
+            || !(1..=days_in(fields.year)).contains(&fields.day)
+            || !(1..=100).contains(&fields.factor)
         {
             return Err(EnrolmentFault::Outside);
         }
