@@ -1,9 +1,9 @@
 -- A filing with one line more keeps what every filing keeps.
-use Rattle.std.proofs.Common.{◌≡◌, ◌+◌, ◌<◌, ◌≤◌, true, List, [], ◌∷◌, ◌++◌, set, None, Ok, sym, ap, ◌∙◌, arith}
+use Rattle.std.proofs.Common.{◌≡◌, ◌+◌, ◌<◌, ◌≤◌, true, set, None, Ok, ap, ◌∙◌, arith}
 use Rattle.std.proofs.lemmas.List.Sums.{sum_by_push}
-use Rattle.filing.specs.Checks.{most_lines, line_refusal, unless_refused, adding}
+use Rattle.filing.specs.Checks.{most_lines, line_refusal}
 use Rattle.filing.specs.Emissions.{total}
-use Rattle.filing.specs.Filing.{FilingFields, lines_in_range, apart, attributed_sum}
+use Rattle.filing.specs.Filing.{lines_in_range, apart, attributed_sum}
 use Rattle.filing.specs.Parts.{head_fields, line_fields, entered}
 use Rattle.filing.specs.Views.{fields_of, LineChecked}
 use Rattle.filing.specs.declared.fields.LineFields.{LineFields}
@@ -31,11 +31,3 @@ grown f l fields checked =
       apart = ap apart push ∙ apart_push old (line_fields l) f.lines_apart a.new;
       within = omega (arith, ap attributed_sum push, sum_by_push (λ (m : LineFields). m.attributed) old (line_fields l), a.within);
     }
-
-pub accepted : (f : Filing) (l : Line) (fields : LineFields) → LineChecked (fields_of f) fields (Ok l) → adding (fields_of f) fields ≡ Ok (record { head = head_fields f.head; lines = entered (set f.lines f.count l) (f.count + 1) })
-accepted f l fields checked =
-    let whole : List LineFields → FilingFields = λ ls. record { head = head_fields f.head; lines = ls } in
-    let old = entered f.lines f.count in
-    ap (λ o. unless_refused o (whole (old ++ fields ∷ []))) checked.1
-    ∙ ap (λ m. Ok (whole (old ++ m ∷ []))) (sym checked.0)
-    ∙ ap (λ ls. Ok (whole ls)) (sym (entered_push f.lines f.count l (omega (arith, (grown f l fields checked).below, f.room))))

@@ -8,6 +8,7 @@ use std::fmt;
 #[derive(Clone, Copy, Debug, PartialEq, Eq)]
 pub enum FilingFault {
     /// A field is outside its range: its code, and the line, or 0 for the head.
+    // Not an `Option`: a refusal tells and prints `line 0` for the head, so `None` would become 0 again there.
     Range { code: usize, line: usize },
     /// A line's kind is not 1 to 3.
     Kind { line: usize },

@@ -12,6 +12,7 @@ use crate::parts::{Head, Line};
 pub(crate) const MOST_LINES: usize = 6;
 
 /// A head and the first `count` of six lines.
+// Not an `ArrayVec`, which is not `Copy`: a register holds signed filings by value, and a draft takes no memory that can run out.
 #[derive(Clone, Copy)]
 pub struct Filing {
     pub(crate) head: Head,

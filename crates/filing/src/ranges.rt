@@ -7,6 +7,7 @@ use crate::fields::HeadFields;
 use crate::kinds::LineKind;
 
 /// The least and the most that a field may be.
+// Not a `RangeInclusive`, which is also spent or not: each contract over ranges would have to say that none is.
 #[derive(Clone, Copy)]
 pub(crate) struct Range {
     pub least: u64,

@@ -50,11 +50,7 @@ fn line_with(kind: u64, code: usize, value: u64) -> LineFields {
 }
 
 fn head_refusal(fields: HeadFields) -> Option<FilingFault> {
-    let mut draft = Draft::blank();
-    match draft.set_head(fields) {
-        Ok(()) => None,
-        Err(fault) => Some(fault),
-    }
+    Draft::blank().set_head(fields).err()
 }
 
 /// A draft whose total is the largest that there is.
@@ -74,14 +70,7 @@ fn largest() -> Result<Draft, FilingFault> {
 }
 
 fn line_refusal(fields: LineFields) -> Option<FilingFault> {
-    let Ok(made) = largest() else {
-        return Some(FilingFault::Lines);
-    };
-    let mut draft = made;
-    match draft.add_line(fields) {
-        Ok(_) => None,
-        Err(fault) => Some(fault),
-    }
+    largest().and_then(|mut draft| draft.add_line(fields)).err()
 }
 
 #[test]

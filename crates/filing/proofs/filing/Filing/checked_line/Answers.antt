@@ -2,19 +2,9 @@ use Rattle.std.proofs.Common.{true, false, ap, arith}
 use Rattle.std.proofs.lemmas.Result.{err_from_is_err_and}
 use Rattle.filing.specs.Filing.{attributed_sum}
 use Rattle.filing.specs.Views.{fields_of}
-use Rattle.filing.proofs.Keeping.{count_is, opened, held}
-use Rattle.filing.proofs.Refusing.{refused_full, refused_kind, refused_range, refused_twice, refused_above, refused_none}
+use Rattle.filing.proofs.Keeping.{opened, held}
+use Rattle.filing.proofs.Refusing.{refused_range, refused_twice, refused_above, refused_none}
 use Rattle.filing.proofs.filing.Filing.checked_line.Goals as goal
-
-pub returns-then-self-ge-MOST_LINES : goal.returns-then-self-ge-MOST_LINES
-returns-then-self-ge-MOST_LINES c =
-    let s = c.args.self.now in
-    refused_full (fields_of s) c.args.fields s.count (count_is s) c.if-self-ge-MOST_LINES.true
-
-pub returns-in_default : goal.returns-in_default
-returns-in_default c =
-    let s = c.args.self.now in
-    refused_kind (fields_of s) c.args.fields s.count (count_is s) c.if-self-ge-MOST_LINES.false c.in_default.ensures.0
 
 pub returns-in_err-line : goal.returns-in_err-line
 returns-in_err-line c =

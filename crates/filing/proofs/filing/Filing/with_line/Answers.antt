@@ -1,10 +1,7 @@
 use Rattle.std.proofs.Common.{◌∙◌, arith}
 use Rattle.std.proofs.lemmas.List.{length-set}
-use Rattle.filing.proofs.Growing.{grown, accepted}
+use Rattle.filing.proofs.Growing.{grown}
 use Rattle.filing.proofs.filing.Filing.with_line.Goals as goal
-
-pub bounds-lines-self : goal.bounds-lines-self
-bounds-lines-self c = (grown c.args.self.now c.in_ok-line.line c.args.fields c.in_ok-line.ensures).below
 
 pub invariant_of-result : goal.invariant_of-result
 invariant_of-result c =
@@ -18,6 +15,3 @@ invariant_of-result c =
       lines_apart = g.apart;
       within = g.within;
     }
-
-pub returns : goal.returns
-returns c = accepted c.args.self.now c.in_ok-line.line c.args.fields c.in_ok-line.ensures

@@ -1,6 +1,5 @@
-use Rattle.std.proofs.Common.{refl}
 use Rattle.filing.proofs.Soundness.{sound}
 use Rattle.filing.proofs.signed.Signed.filing.Goals as goal
 
-pub returns : goal.returns
-returns c = record { is = refl; sound = sound c.args.self.now.filing }
+pub returns-clause-sound : goal.returns-clause-sound
+returns-clause-sound c = sound c.args.self.now.filing
