@@ -1,20 +1,18 @@
 //! What the filing at a year's place has of an activity.
-ghost use Rattle.std.specs.Prelude.{◌≡◌, ◌≤◌, not, sum_by, filter, if◌then◌else◌, Some};
+ghost use Rattle.std.specs.Prelude.{◌≡◌, ◌≤◌, not, sum_by, filter, Some};
 ghost use Rattle.filing.specs.Parts.{line_fields};
-ghost use Rattle.filing.specs.Views.{filed};
+ghost use Rattle.filing.specs.Views.{fields_of, filed};
 ghost use Rattle.standard.specs.Found.{YearOf};
 ghost use Rattle.standard.specs.Places.{standing};
-ghost use Rattle.standard.specs.Reference.{of_activity};
+ghost use Rattle.standard.specs.Reference.{of_activity, has_activity, made_by};
 ghost use Rattle.standard.specs.Seen.{seen};
 
 use crate::activity::Activity;
 use crate::units::ReferenceYear;
+use filing::filing::Filing;
 use filing::kinds::LineKind;
 use filing::parts::Line;
 use filing::signed::Signed;
-
-/// The production of an activity that has no line.
-const WITHOUT_LINE: u64 = 0;
 
 /// Whether a line is a calculated line of the activity.
 fn of_activity(line: &Line, activity: u16) -> bool
@@ -23,26 +21,37 @@ fn of_activity(line: &Line, activity: u16) -> bool
     matches!(line.kind, LineKind::Calculated) && line.number == activity
 }
 
-/// The kilograms attributed to a line, or 0 where it is of the activity.
-fn other_kg(line: &Line, activity: u16) -> u64
-    ensures value { result ≡ (if not (of_activity activity (line_fields line.now)) then line.now.attributed.kg else 0) }
-    ensures bound { result ≤ 200000000000 }
+/// Whether a line of the filing is of the activity.
+fn has_line(filing: &Filing, activity: u16) -> bool
+    ensures { result ≡ has_activity activity (Some (fields_of filing.now)) }
 {
-    if of_activity(line, activity) {
-        return 0;
-    }
-    line.attributed.kg
+    let lines = filing.lines();
+    lines.iter().any(|line| of_activity(line, activity))
 }
 
-/// The production of a line, or 0 where it is not of the activity.
-fn own_production(line: &Line, activity: u16) -> u64
-    ensures value { result ≡ (if of_activity activity (line_fields line.now) then line.now.production.thousandths else 0) }
-    ensures bound { result ≤ 100000000000 }
+/// The kilograms attributed to the lines that are not of the activity.
+fn other_kg(filing: &Filing, activity: u16) -> u64
+    ensures { result ≡ sum_by (λ l. l.attributed) (filter (λ l. not (of_activity activity l)) (fields_of filing.now).lines) }
 {
-    if !of_activity(line, activity) {
-        return 0;
-    }
-    line.production.thousandths
+    let lines = filing.lines();
+    lines
+        .iter()
+        .filter(|line| !of_activity(line, activity))
+        .map(|line| line.attributed.kg)
+        .sum()
+}
+
+/// The production of the lines of the activity, in thousandths.
+fn own_production(filing: &Filing, activity: u16) -> u64
+    ensures value { result ≡ made_by activity (fields_of filing.now) }
+    ensures bound { result ≤ 600000000000 }
+{
+    let lines = filing.lines();
+    lines
+        .iter()
+        .filter(|line| of_activity(line, activity))
+        .map(|line| line.production.thousandths)
+        .sum()
 }
 
 /// What a filing has of the activity, or nothing where no line is of it.
@@ -50,21 +59,14 @@ fn filed_year(signed: &Signed, year: u64, activity: u16) -> Option<ReferenceYear
     ensures { YearOf activity year (Some (filed signed.now)) result }
 {
     let filing = signed.filing();
-    let lines = filing.lines();
-    let mut others = 0;
-    let mut made = 0;
-    for line in lines {
-        others += other_kg(line, activity);
-        made += own_production(line, activity);
-    }
-    if made == WITHOUT_LINE {
+    if !has_line(filing, activity) {
         return None;
     }
     let total = filing.total();
     Some(ReferenceYear {
         year,
-        kg: total.kg.saturating_sub(others),
-        thousandths: made,
+        kg: total.kg.saturating_sub(other_kg(filing, activity)),
+        thousandths: own_production(filing, activity),
     })
 }
 
