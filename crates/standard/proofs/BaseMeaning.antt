@@ -1,12 +1,14 @@
 -- What the base year means.
 use Rattle.std.proofs.Common.{◌≡◌, ℕ, ◌≤◌, true, false, not, Some, None, Option, sym, subst, arith}
-use Rattle.std.proofs.lemmas.Bool.{and_from, and_parts, not-true, not_from_false}
+use Rattle.std.proofs.lemmas.Bool.{and_from, and_parts, both_ways, not-true, not_from_false}
 use Rattle.enrolment.specs.Exempt.{exempt}
 use Rattle.enrolment.specs.declared.fields.EnrolmentFields.{EnrolmentFields}
-use Rattle.standard.specs.Places.{Places}
+use Rattle.standard.specs.Found.{YearOf, Based}
+use Rattle.standard.specs.Places.{Places, standing}
 use Rattle.standard.specs.Reference.{qualifies, may_be_base, base_year, BaseOf}
 use Rattle.standard.proofs.Least.{First, least_is}
-use Rattle.standard.proofs.Standing.{qualifies_within}
+use Rattle.standard.specs.declared.units.ReferenceYear.{ReferenceYear}
+use Rattle.standard.proofs.Standing.{own_year, qualifies_within}
 
 module _ (e : EnrolmentFields) (ps : Places) (a : ℕ) where
   may : (z : ℕ) → exempt e z ≡ false → qualifies ps a z ≡ true → may_be_base e ps a z ≡ true
@@ -28,3 +30,8 @@ module _ (e : EnrolmentFields) (ps : Places) (a : ℕ) where
 -- the answer that is the base year
 pub base_is : (e : EnrolmentFields) (ps : Places) (a : ℕ) (o : Option ℕ) → o ≡ base_year e ps a → BaseOf e ps a o
 base_is e ps a o is = let P : Option ℕ → Type 0 = BaseOf e ps a in subst P (sym is) (base_means e ps a)
+
+-- what the base year has, or nothing, which it never has
+pub has_base : (e : EnrolmentFields) (ps : Places) (a y : ℕ) (o : Option ReferenceYear) → Some y ≡ base_year e ps a → YearOf a y (standing ps y) o → Based e ps a o
+has_base e ps a y None is h = absurd (both_ways (qualifies ps a y) h (base_is e ps a (Some y) is).filed)
+has_base e ps a y (Some r) is h = own_year ps a y (base_year e ps a) r (sym is) h.1

@@ -1,23 +1,22 @@
 -- The least number that passes a test: a search upwards, and what it finds.
-use Rattle.std.proofs.Common.{◌≡◌, ℕ, zero, suc, ◌+◌, ◌-◌, ◌<◌, ◌≤◌, Bool, true, false, cond, Some, None, Option, sym, refl, ap, ◌∙◌, ⊎_elim, add-one, arith}
+use Rattle.std.proofs.Common.{◌≡◌, ℕ, zero, suc, ◌+◌, ◌<◌, ◌≤◌, Bool, true, false, cond, Some, None, Option, sym, refl, ap, ◌∙◌, ⊎_elim, MatchOption, arith}
 use Rattle.std.proofs.lemmas.Bool.{cases_eq, both_ways, cond-true, cond-false}
 use Rattle.standard.specs.Reference.{least_from}
 
--- what stands after the numbers below y have failed, where o is the answer from the start
-module _ (test : ℕ → Bool) (y end : ℕ) (o : Option ℕ) (so_far : least_from test y (end - y) ≡ o) where
-  pub least_none : end ≤ y → o ≡ None
-  least_none past = let none : end - y ≡ 0 = omega arith in sym so_far ∙ ap (least_from test y) none
-
-  here : y < end → cond (test y) (Some y) (least_from test (y + 1) (end - (y + 1))) ≡ o
-  here within =
-      let one : end - y ≡ suc (end - (y + 1)) = omega arith in
-      ap (λ z. cond (test y) (Some y) (least_from test z (end - (y + 1)))) (add-one y) ∙ sym (ap (least_from test y) one) ∙ so_far
-
-  pub least_hit : y < end → test y ≡ true → o ≡ Some y
-  least_hit within passes = sym (here within) ∙ cond-true (test y) _ _ passes
-
-  pub least_miss : y < end → test y ≡ false → least_from test (y + 1) (end - (y + 1)) ≡ o
-  least_miss within fails = sym (cond-false (test y) _ _ fails) ∙ here within
+-- the first of n numbers from y on that passes, or that none does, is what the search finds
+pub first_is : (test : ℕ → Bool) (y n : ℕ) (o : Option ℕ) → MatchOption o ((k : ℕ) → y ≤ k → k < y + n → test k ≡ false) (λ i. (y ≤ i) × (i < y + n) × (test i ≡ true) × ((k : ℕ) → y ≤ k → k < i → test k ≡ false)) → o ≡ least_from test y n
+first_is test y zero None h = refl
+first_is test y zero (Some i) h = absurd (omega (arith, h.0, h.1))
+first_is test y (suc n) None h =
+    first_is test (suc y) n None (λ k from below. h k (omega arith) (omega arith))
+    ∙ sym (cond-false (test y) (Some y) (least_from test (suc y) n) (h y (omega arith) (omega arith)))
+first_is test y (suc n) (Some i) h =
+    ⊎_elim
+    (λ (same : y ≡ i). ap Some (sym same) ∙ sym (cond-true (test y) (Some y) (least_from test (suc y) n) (ap test same ∙ h.2)))
+    (λ (other : y ≡ i → ⊥).
+    first_is test (suc y) n (Some i) (omega (arith, h.0, other), omega (arith, h.1), h.2, λ k from below. h.3 k (omega arith) below)
+    ∙ sym (cond-false (test y) (Some y) (least_from test (suc y) n) (h.3 y (omega arith) (omega (arith, h.0, other)))))
+    (cases_eq y i)
 
 -- x is the least from y on that passes
 pub record Least (test : ℕ → Bool) (y x : ℕ) : Type 0 where

@@ -3,7 +3,7 @@ use Rattle.std.specs.Prelude.{◌≡◌, ℕ, true, false, Some, None, Option}
 use Rattle.filing.specs.Filing.{FilingFields}
 use Rattle.enrolment.specs.declared.fields.EnrolmentFields.{EnrolmentFields}
 use Rattle.standard.specs.Places.{Places}
-use Rattle.standard.specs.Reference.{has_activity, figures_of, figures_at, may_be_base, base_year}
+use Rattle.standard.specs.Reference.{has_activity, figures_of, figures_at, base_year}
 use Rattle.standard.specs.Views.{year_figures}
 use Rattle.standard.specs.declared.units.ReferenceYear.{ReferenceYear}
 
@@ -11,11 +11,6 @@ use Rattle.standard.specs.declared.units.ReferenceYear.{ReferenceYear}
 abbrev pub YearOf : ℕ → ℕ → Option FilingFields → Option ReferenceYear → Type 0
 YearOf activity y p None = has_activity activity p ≡ false
 YearOf activity y p (Some r) = (has_activity activity p ≡ true) × (year_figures r ≡ figures_of activity y p)
-
--- N and D of a year that may be the base year, or nothing where it may not
-abbrev pub Candidate : EnrolmentFields → Places → ℕ → ℕ → Option ReferenceYear → Type 0
-Candidate e ps activity y None = may_be_base e ps activity y ≡ false
-Candidate e ps activity y (Some r) = (may_be_base e ps activity y ≡ true) × (year_figures r ≡ figures_at ps activity y)
 
 -- N and D of the base year, or nothing where there is none
 abbrev pub Based : EnrolmentFields → Places → ℕ → Option ReferenceYear → Type 0

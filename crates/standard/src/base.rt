@@ -1,9 +1,9 @@
 //! The base year of an activity.
 ghost use Rattle.std.specs.Prelude.{◌≡◌};
 ghost use Rattle.enrolment.specs.Views.{enrolled};
-ghost use Rattle.standard.specs.Found.{Candidate, Based};
+ghost use Rattle.standard.specs.Found.{Based};
 ghost use Rattle.standard.specs.Places.{filings, up_to};
-ghost use Rattle.standard.specs.Reference.{base_year, BaseOf};
+ghost use Rattle.standard.specs.Reference.{may_be_base, base_year, BaseOf};
 ghost use Rattle.standard.specs.Seen.{seen};
 
 use crate::activity::Activity;
@@ -17,26 +17,25 @@ const FIRST_BASE: u64 = 2019;
 const AFTER_LAST: u64 = 2037;
 
 impl Activity<'_> {
-    /// What a year has of the activity, where it may be the base year.
-    fn base_candidate(self, year: u64) -> Option<ReferenceYear>
-        ensures { Candidate (enrolled self.entry.at.enrolment.now) (seen self.entry.at) self.entry.number year result }
+    /// Whether a year may be the base year: it is not exempt, and has a line of the activity.
+    fn may_be_base(self, year: u64) -> bool
+        ensures { result ≡ may_be_base (enrolled self.entry.at.enrolment.now) (seen self.entry.at) self.entry.number year }
     {
-        if self.at.enrolment.exempt(year) {
-            return None;
-        }
-        self.of_year(year)
+        !self.at.enrolment.exempt(year) && self.of_year(year).is_some()
+    }
+
+    /// The earliest year that may be the base year.
+    fn base_year(self) -> Option<u64>
+        ensures { result ≡ base_year (enrolled self.entry.at.enrolment.now) (seen self.entry.at) self.entry.number }
+    {
+        (FIRST_BASE..AFTER_LAST).find(|year| self.may_be_base(*year))
     }
 
     /// What the base year has of the activity.
     pub(crate) fn base(self) -> Option<ReferenceYear>
         ensures { Based (enrolled self.entry.at.enrolment.now) (seen self.entry.at) self.entry.number result }
     {
-        for year in FIRST_BASE..AFTER_LAST {
-            if let Some(base) = self.base_candidate(year) {
-                return Some(base);
-            }
-        }
-        None
+        self.of_year(self.base_year()?)
     }
 }
 
@@ -50,6 +49,6 @@ impl FacilityYear<'_> {
             at: self,
             number: activity,
         };
-        Some(activity.base()?.year)
+        activity.base_year()
     }
 }

@@ -7,15 +7,12 @@ ghost use Rattle.standard.specs.Capacity.{dated, lines_at, of_unit, triggers as 
 ghost use Rattle.standard.specs.Places.{filing_at, filings, up_to};
 
 use crate::facility::FacilityYear;
-use crate::places::up_to;
+use crate::places::{FIRST_YEAR, up_to};
 use crate::units::Capacity;
 use filing::filing::Filing;
 use filing::kinds::LineKind;
 use filing::parts::Line;
 use filing::signed::Signed;
-
-/// The year of the first place.
-const FIRST: u64 = 2017;
 
 /// The least addition that triggers the decreasing standard, in megawatts.
 const TRIGGER_MW: u64 = 50;
@@ -72,6 +69,7 @@ fn added_by_filing(filing: &Filing, unit: u16, year: u64) -> Capacity
     let lines = filing.lines();
     let mut triggering = 0;
     let mut other = 0;
+    // A `for`: two figures are summed at once, and a chain for each would sort the lines twice.
     for line in lines {
         let added = added_by_line(line, unit, year);
         triggering += added.triggering;
@@ -104,8 +102,9 @@ impl FacilityYear<'_> {
         let past = up_to(self.places, self.year);
         let mut triggering = 0;
         let mut other = 0;
+        // A `for`: two figures are summed at once, and a chain for each would go through the filings twice.
         for (i, place) in past.iter().enumerate() {
-            let added = added_by_place(place, unit, FIRST + i as u64);
+            let added = added_by_place(place, unit, FIRST_YEAR + i as u64);
             triggering += added.triggering;
             other += added.other;
         }

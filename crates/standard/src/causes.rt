@@ -5,7 +5,7 @@ ghost use Rattle.standard.specs.Causes.{cause_number, cause_word};
 use std::fmt;
 
 /// The cause of a line's fault.
-#[derive(Clone, Copy)]
+#[derive(Clone, Copy, Debug, PartialEq, Eq)]
 pub enum Cause {
     /// The method serves no calculated lines.
     Method,
