@@ -9,6 +9,7 @@ use crate::steps::Recorded;
 use codec::reader::read;
 use filing::draft::Draft;
 
+// The two calls differ in the register's call alone: a closure for it would need clauses longer than their bodies.
 impl Engine {
     /// Reads the record at the front of `bytes` and files it.
     pub fn file_record(&mut self, bytes: &[u8]) -> Result<Recorded, EngineFault>

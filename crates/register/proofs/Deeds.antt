@@ -1,5 +1,5 @@
 -- An act: the register holds what the events and the act say, and the answer is theirs.
-use Rattle.std.proofs.Common.{◌≡◌, ℕ, ◌+◌, ◌-◌, ◌≤◌, List, [], ◌∷◌, ◌++◌, get_or, IfErr, Some, None, Ok, Err, Option, Result, sym, ap, ◌∙◌, subst, arith}
+use Rattle.std.proofs.Common.{◌≡◌, ℕ, ◌+◌, ◌-◌, ◌≤◌, List, [], ◌∷◌, ◌++◌, get_or, Some, None, Ok, Err, Option, Result, sym, ap, ◌∙◌, subst, arith}
 use Rattle.filing.specs.Filing.{FilingFields}
 use Rattle.filing.specs.declared.signed.Signed.{Signed}
 use Rattle.enrolment.specs.declared.enrolment.Enrolment.{Enrolment}
@@ -23,11 +23,6 @@ use Rattle.register.proofs.Refills.{Refills, act_refills}
 use Rattle.register.proofs.Refits.{refit_lives}
 
 module _ {M : Type 0} (μ : M → Meaning) where
-  -- a refused act leaves the register as it was
-  pub acted_refused : (r s : Register M) (f y : ℕ) (e : Enrolment) (old v : Option Signed) (ans : Result ℕ Refusal) → Acted μ r s f y e old v ans → IfErr ans (λ _. s ≡ r)
-  acted_refused r s f y e old v (Ok n) D = tt
-  acted_refused r s f y e old v (Err w) D = D.0
-
   module _ (later : (m : M) → Later (μ m)) (m : M) (r s : Register M) (a : Act) (f-low : 1 ≤ a.facility) (f-high : a.facility ≤ 4) (low : 2017 ≤ a.year) (high : a.year ≤ 2036) (d : Plant) (d-is : d ≡ get_or r.plants (a.facility - 1) d) (e : Enrolment) (enrolment : d.enrolment ≡ Some e) (old v : Option Signed) (v-is : filing_at v ≡ a.leaves) where
     pub done_holds : (es : List Event) → Holds μ m r es → filing_at old ≡ standing_at es a.facility a.year → (n : ℕ) → Done μ r s a.facility a.year e old v n → Holds μ m s (acts a ∷ es) × (n ≡ numbers es + 1)
     unfolding standing_at

@@ -1,5 +1,5 @@
 -- A facility is enrolled once, so its enrolment stays.
-use Rattle.std.proofs.Common.{◌≡◌, ℕ, Bool, true, false, cond, not, eqb, List, [], ◌∷◌, ◌++◌, is_some, Some, None, Option, sym, refl, ap, ◌∙◌, subst, inl, inr}
+use Rattle.std.proofs.Common.{◌≡◌, ℕ, Bool, true, false, cond, not, eqb, List, [], ◌∷◌, ◌++◌, is_some, Some, None, Option, refl, ap, ◌∙◌, subst, inl, inr}
 use Rattle.std.proofs.lemmas.Bool.{cond-false, eqb-true, cases_Bool}
 use Rattle.enrolment.specs.Ranges.{in_ranges}
 use Rattle.enrolment.specs.declared.fields.EnrolmentFields.{EnrolmentFields}
@@ -8,7 +8,6 @@ use Rattle.register.specs.Calls.{CallFields, enrol, file, amend, withdraw, take_
 use Rattle.register.specs.History.{enrolment_of}
 use Rattle.register.specs.declared.refusals.Refusal.{Refusal}
 use Rattle.register.specs.declared.refusals.Refusal.TheVariants.{Enrolled, Enrolment}
-use Rattle.register.proofs.Options.{none_some}
 
 -- no facility is enrolled twice
 abbrev Fresh : List Event → Type 0
@@ -20,9 +19,9 @@ Fresh (closes ∷ es) = Fresh es
 
 -- an enrolment that is accepted is the first
 first_one : (p : Bool) (o : Option EnrolmentFields) → None ≡ cond p (Some Enrolment) (cond (is_some o) (Some Enrolled) None) → o ≡ None
-first_one true o h = absurd (none_some h)
+first_one true o h = cc
 first_one false None h = refl
-first_one false (Some e) h = absurd (none_some h)
+first_one false (Some e) h = cc
 
 fresh_added : (c : CallFields) (es : List Event) (o : Option Refusal) → o ≡ refusal_of c es → Fresh es → Fresh (added o (event_of c) es)
 fresh_added c es (Some w) h k = k
@@ -43,7 +42,7 @@ fresh_stays [] es f e k h = h
 fresh_stays (enrols d ∷ new) es f e k h =
     let was : enrolment_of (new ++ es) f ≡ Some e = fresh_stays new es f e k.1 h in
     elim (cases_Bool (eqb d.facility f)) [
-      | inl same ↦ absurd (none_some (sym k.0 ∙ ap (enrolment_of (new ++ es)) (eqb-true d.facility f same) ∙ was))
+      | inl same ↦ cc (k.0, ap (enrolment_of (new ++ es)) (eqb-true d.facility f same), was)
       | inr other ↦ cond-false (eqb d.facility f) (Some d) (enrolment_of (new ++ es) f) other ∙ was
     ]
 fresh_stays (acts a ∷ new) es f e k h = fresh_stays new es f e k h

@@ -8,7 +8,6 @@ use Rattle.register.specs.Calls.{Act, Event, enrols, acts, takes_back, closes}
 use Rattle.register.specs.History.{standing_at, numbers, if_touched, number_of}
 use Rattle.register.specs.Laws.{on_place, touches, Latest}
 use Rattle.register.specs.Striking.{struck_or, open_acts, undo_log, closed_acts, unstruck}
-use Rattle.register.proofs.Options.{none_some}
 use Rattle.register.proofs.Vacancies.{on_just, none_stands}
 
 -- some event is on the facility, in the year or an earlier one
@@ -119,5 +118,5 @@ pub standing_touched : (es : List Event) (f y : ℕ) (x : FilingFields) → stan
 standing_touched es f y x stands =
     elim (cases_Bool (touched es f y)) [
       | inl is ↦ is
-      | inr lacks ↦ absurd (none_some (sym (untouched_vacant es f y lacks) ∙ stands))
+      | inr lacks ↦ cc (untouched_vacant es f y lacks)
     ]

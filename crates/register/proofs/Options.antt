@@ -1,13 +1,7 @@
 -- Options, by their cases.
-use Rattle.std.proofs.Common.{◌≡◌, true, false, ◌⊎◌, is_some, Some, None, Option, Err, sym, refl, inl, inr, arith}
+use Rattle.std.proofs.Common.{◌≡◌, true, false, ◌⊎◌, is_some, Some, None, Option, Err, refl, inl, inr}
 use Rattle.std.specs.Option.{ok_or}
 use Rattle.std.proofs.lemmas.Bool.{false≢true, true≢false}
-
-pub none_some : {X : Type 0} {x : X} → None ≡ Some x → ⊥
-none_some h = grind arith
-
-pub some_inj : {X : Type 0} {x y : X} → Some x ≡ Some y → x ≡ y
-some_inj h = cc
 
 pub none_or_some : {X : Type 0} (o : Option X) → (o ≡ None) ⊎ ((x : X) × (o ≡ Some x))
 none_or_some None = inl refl
@@ -24,4 +18,4 @@ none_of (Some x) h = absurd (true≢false h)
 -- the error in place of a value that is missing
 pub missing : {X E : Type 0} (o : Option X) (e f : E) → o ≡ None → Err f ≡ ok_or o e → f ≡ e
 missing None e f none is = cc
-missing (Some x) e f none is = absurd (none_some (sym none))
+missing (Some x) e f none is = cc

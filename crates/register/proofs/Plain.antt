@@ -1,15 +1,12 @@
 -- What a register holds, as its events say it.
-use Rattle.std.proofs.Common.{◌≡◌, ℕ, ◌-◌, ◌<◌, ◌≤◌, true, false, List, [], ◌∷◌, length, get_or, is_some, Some, None, vec_len, Option, sym, ap, ◌∙◌, arith}
+use Rattle.std.proofs.Common.{◌≡◌, ℕ, ◌-◌, ◌<◌, ◌≤◌, true, false, List, [], ◌∷◌, length, get_or, is_some, Some, None, vec_len, sym, ap, ◌∙◌, arith}
 use Rattle.std.specs.Option.{option_map}
 use Rattle.std.specs.List.{AllByRecursion}
-use Rattle.std.proofs.lemmas.List.{length-map, get_or-map}
 use Rattle.std.proofs.lemmas.Bool.{le-leb, lt-leb}
-use Rattle.filing.specs.declared.signed.Signed.{Signed}
 use Rattle.enrolment.specs.Ranges.{between}
 use Rattle.enrolment.specs.Views.{enrolled}
 use Rattle.enrolment.specs.declared.enrolment.Enrolment.{Enrolment}
 use Rattle.limit.specs.Laws.{Meaning}
-use Rattle.standard.specs.Places.{Places, filing_at}
 use Rattle.register.specs.Acceptance.{book_full, bare, spent, most_acts, last_number}
 use Rattle.register.specs.Calls.{Act, Event}
 use Rattle.register.specs.History.{standing_at, enrolment_of, numbers}
@@ -18,7 +15,6 @@ use Rattle.register.specs.Striking.{undo_log}
 use Rattle.register.specs.declared.table.Plant.{Plant}
 use Rattle.register.specs.declared.table.Register.{Register}
 use Rattle.register.proofs.Vacancies.{outside_none}
-use Rattle.register.proofs.Rows.{places_long, place_of}
 
 -- acts that are known stay known where the facilities stay enrolled
 pub known_on : (es ds : List Event) → ((f : ℕ) → is_some (enrolment_of es f) ≡ true → is_some (enrolment_of ds f) ≡ true) → (l : List Act) → AllByRecursion (Known es) l → AllByRecursion (Known ds) l
@@ -41,9 +37,6 @@ module _ {M : Type 0} (μ : M → Meaning) (m : M) (r : Register M) (es : List E
   pub not_bare : (vec_len r.log.entries ≡ 0 → ⊥) → (bare es).0 ≡ false
   not_bare h = lt-leb (length (undo_log es)) 0 (omega (arith, H.log_len))
 
-  pub is_bare : vec_len r.log.entries ≡ 0 → (bare es).0 ≡ true
-  is_bare h = le-leb (length (undo_log es)) 0 (omega (arith, H.log_len))
-
   pub not_spent : r.used < 1000000 → (spent es).0 ≡ false
   not_spent h = lt-leb last_number (numbers es) (omega (arith, H.used_is))
 
@@ -60,10 +53,3 @@ module _ {M : Type 0} (μ : M → Meaning) (m : M) (r : Register M) (es : List E
 
     pub enrolled_no : d.enrolment ≡ None → enrolment_of es f ≡ None
     enrolled_no h = sym (H.plants_are f lo hi d d-is).enrolment_is ∙ ap (option_map enrolled) h
-
-    -- the filing at a place
-    pub place_stands : (y : ℕ) → 2017 ≤ y → y ≤ 2036 → (p : Option Signed) → p ≡ get_or d.places (y - 2017) p → filing_at p ≡ standing_at es f y
-    place_stands y low high p p-is =
-        let are = (H.plants_are f lo hi d d-is).places_are in
-        let lt : y - 2017 < length d.places = omega (arith, length-map d.places filing_at, ap length are, places_long es f) in
-        ap filing_at p-is ∙ sym (get_or-map filing_at d.places (y - 2017) p None lt) ∙ ap (λ (l : Places). get_or l (y - 2017) None) are ∙ place_of es f y None low high

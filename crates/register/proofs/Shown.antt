@@ -23,7 +23,7 @@ use Rattle.register.specs.Views.{shown_of, shown_in, assessment_fields, blank_pl
 use Rattle.register.specs.declared.table.Assessment.{Assessment}
 use Rattle.register.specs.declared.table.Plant.{Plant}
 use Rattle.register.specs.declared.table.Register.{Register}
-use Rattle.register.proofs.Options.{none_some, some_inj, none_or_some, some_of}
+use Rattle.register.proofs.Options.{none_or_some, some_of}
 use Rattle.register.proofs.Rows.{places_same}
 use Rattle.register.proofs.Vacancies.{outside_none, standing_enrolled}
 
@@ -57,11 +57,11 @@ module _ (meaning : Meaning) (es : List Event) (f y : ℕ) where
 
   -- its figures and its number
   figures_of_place : (o : Option EnrolmentFields) (p : Option FilingFields) (a : AssessmentFields) → enrolment_of es f ≡ o → standing_at es f y ≡ p → assessment_of meaning es f y o p ≡ Some a → Figures meaning es f y a × (a.number ≡ number_of es f y)
-  figures_of_place None p a eo ep h = absurd (none_some h)
-  figures_of_place (Some e) None a eo ep h = absurd (none_some h)
+  figures_of_place None p a eo ep h = cc
+  figures_of_place (Some e) None a eo ep h = cc
   figures_of_place (Some e) (Some x) a eo ep h =
       let made : AssessmentFields = assessment (emissions x.head) (meaning e (places_of es f) y) (number_of es f y) in
-      let is : made ≡ a = some_inj h in (
+      let is : made ≡ a = cc in (
         record {
           enrolment = e;
           filing = x;

@@ -9,7 +9,6 @@ use Rattle.register.specs.Calls.{Act, Event}
 use Rattle.register.specs.History.{left_by, standing_at, enrolment_of}
 use Rattle.register.specs.Lived.{Known}
 use Rattle.register.specs.Striking.{unstruck}
-use Rattle.register.proofs.Options.{none_some}
 
 -- the act is on the facility, in just the year
 abbrev pub on_just : ℕ → ℕ → Act → Bool
@@ -49,5 +48,5 @@ pub standing_enrolled : (es : List Event) (f y : ℕ) (x : FilingFields) → All
 standing_enrolled es f y x known stands =
     elim (cases_Bool (is_some (enrolment_of es f))) [
       | inl is ↦ is
-      | inr lacks ↦ absurd (none_some (sym (unenrolled_vacant es f y known lacks) ∙ stands))
+      | inr lacks ↦ cc (unenrolled_vacant es f y known lacks)
     ]

@@ -36,6 +36,7 @@ pub record Known (es : List Event) (a : Act) : Type 0 where
   pub from : 2017 ≤ a.year
   pub to : a.year ≤ 2036
 
+-- A history is no value that a register holds, so this is a predicate, with the method's meaning as its parameter.
 module _ {M : Type 0} (μ : M → Meaning) where
   -- the register holds what the accepted events say
   pub record Holds (m : M) (r : Register M) (es : List Event) : Type 0 where

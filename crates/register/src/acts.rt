@@ -72,7 +72,8 @@ impl<M: LimitMethod> Register<M> {
     {
         let entry = self.log.latest().ok_or(Refusal::Bare)?;
         let number = self.next_number()?;
-        // The facility of an act is enrolled, so no history is refused here.
+        // The facility of an act is enrolled, so no history is refused here. An invariant of the register that said
+        // so would leave an `unwrap` in place of the `?`, and ask for the enrolment at every act.
         let enrolment = self.enrolment_of(entry.place.facility)?;
         self.log.strike();
         self.put(entry.place, &enrolment, entry.before, number);

@@ -20,11 +20,12 @@ pub struct Assessment {
 #[derive(Clone, Copy)]
 pub(crate) struct Plant {
     pub(crate) enrolment: Option<Enrolment>,
+    // Two arrays and not one of pairs: a method is lent the places alone, while the assessments are written.
     pub(crate) places: [Option<Signed>; 20],
     pub(crate) assessed: [Option<Assessment>; 20],
 }
 
-/// The register of four facilities. It has no ghost field of its own, so that a facility can be changed in place.
+/// The register of four facilities.
 #[derive(Drop)]
 pub struct Register<M> {
     pub(crate) method: M,

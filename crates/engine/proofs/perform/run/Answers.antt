@@ -1,10 +1,10 @@
 use Rattle.std.proofs.Common.{◌≡◌, List, [], length, get_or, take, vec_items, sym, ap, ◌∙◌, subst, arith, rules}
 use Rattle.std.proofs.lemmas.List.{take_all, get_or_read}
+use Rattle.register.proofs.Telling.{told_more, each_more}
 use Rattle.register.proofs.Wholes.{laws_of}
-use Rattle.engine.specs.Engine.{engine_meaning, engine_method, step_fields, steps_of, EngineLaws}
+use Rattle.engine.specs.Engine.{engine_meaning, engine_method, step_fields, step_answered, steps_of, EngineLaws}
 use Rattle.engine.specs.Steps.{StepFields, step_answer}
 use Rattle.engine.specs.declared.steps.Step.{Step}
-use Rattle.engine.proofs.Stepping.{steps_more, told_more}
 use Rattle.engine.proofs.perform.run.Goals as goal
 
 pub loop-step-init : goal.loop-step-init
@@ -15,13 +15,13 @@ loop-step-preserved c =
     let xs = c.args.steps.now in
     let i = c.loop-step.step-index in
     let x = c.step-item.result in
-    let more = steps_more xs i x c.loop-step-test.true c.step-item.is in
+    let more = told_more step_fields xs i x c.loop-step-test.true c.step-item.is in
     let p = c.perform.ensures.laws engine_method (steps_of (take i xs)) c.loop-step.invariant.0.lived in (
       subst (λ (h : List StepFields). EngineLaws engine_method h c.perform.new.self) (sym more) p.0,
       omega (arith, c.push_reserved.ensures.len, c.loop-step.invariant.1),
       search rules,
       λ k d a lt.
-          told_more (λ j. step_answer (engine_meaning engine_method) (step_fields (get_or xs j d)) (steps_of (take j xs))) (vec_items c.loop-step.answers) (vec_items c.push_reserved.new.self) i c.perform.result
+          each_more step_answered (λ j. step_answer (engine_meaning engine_method) (step_fields (get_or xs j d)) (steps_of (take j xs))) (vec_items c.loop-step.answers) (vec_items c.push_reserved.new.self) i c.perform.result
           c.push_reserved.ensures.items (sym c.loop-step.answers.ok.0 ∙ c.loop-step.invariant.1)
           (p.1 ∙ ap (λ (y : Step). step_answer (engine_meaning engine_method) (step_fields y) (steps_of (take i xs))) (get_or_read xs i x c.loop-step-test.true c.step-item.is d))
           (λ j b lt'. c.loop-step.invariant.3 j d b lt') k a lt,

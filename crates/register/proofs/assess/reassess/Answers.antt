@@ -22,9 +22,3 @@ loop-i-preserved g c =
       fill_more (option_map assessment_fields) (λ k. anew meaning e ps k c.args.number)
           xs c.args.from i v None within (c.fresh.ensures ∙ anew_place meaning e ps i c.args.number (omega arith)) c.loop-i.invariant.2,
     )
-
-pub returns : goal.returns
-returns g c = record {
-  before = c.loop-i.invariant.1;
-  after = λ k lo hi. c.loop-i.invariant.2 k lo (omega arith);
-}

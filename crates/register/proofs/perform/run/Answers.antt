@@ -26,13 +26,13 @@ loop-call-preserved g c =
     let xs = c.args.calls.now in
     let i = c.loop-call.call-index in
     let x = c.call-item.result in
-    let told = told_more xs i x c.loop-call-test.true c.call-item.is in
+    let told = told_more call_fields xs i x c.loop-call-test.true c.call-item.is in
     let p = c.perform.ensures.laws r.method (history_of (take i xs)) c.loop-call.invariant.0.lived in (
       subst (λ (h : List CallFields). Laws g.M.LimitMethod.meaning r.method h c.perform.new.self) (sym told) p.0,
       omega (arith, c.push_reserved.ensures.len, c.loop-call.invariant.1),
       search rules,
       λ k d a lt.
-          each_more (λ j. answer_to (g.M.LimitMethod.meaning r.method) (call_fields (get_or xs j d)) (history_of (take j xs))) (vec_items c.loop-call.answers) (vec_items c.push_reserved.new.self) i c.perform.result
+          each_more answered (λ j. answer_to (g.M.LimitMethod.meaning r.method) (call_fields (get_or xs j d)) (history_of (take j xs))) (vec_items c.loop-call.answers) (vec_items c.push_reserved.new.self) i c.perform.result
           c.push_reserved.ensures.items (sym c.loop-call.answers.ok.0 ∙ c.loop-call.invariant.1)
           (p.1 ∙ ap (λ (y : Call). answer_to (g.M.LimitMethod.meaning r.method) (call_fields y) (history_of (take i xs))) (get_or_read xs i x c.loop-call-test.true c.call-item.is d))
           (λ j b lt'. c.loop-call.invariant.3 j d b lt') k a lt,
