@@ -1,4 +1,4 @@
--- A step performed, and one more of a list of steps.
+-- A step performed.
 use Rattle.std.proofs.Common.{◌≡◌, Result, sym, ap, subst}
 use Rattle.register.specs.Calls.{call_fields}
 use Rattle.register.specs.Performing.{answered, Performs}

@@ -9,7 +9,8 @@ use crate::steps::Recorded;
 use codec::reader::read;
 use filing::draft::Draft;
 
-// The two calls differ in the register's call alone: a closure for it would need clauses longer than their bodies.
+// The two differ in one call of the register. With that call as a closure, a third function would need clauses that
+// say what the closure does to the register and answers, and the two would each still need their own.
 impl Engine {
     /// Reads the record at the front of `bytes` and files it.
     pub fn file_record(&mut self, bytes: &[u8]) -> Result<Recorded, EngineFault>
