@@ -9,6 +9,9 @@ pub number_two : (bs : List ℕ) (at : ℕ) → at + 2 ≤ length bs → number 
 number_two bs at h = rw (drop_more bs at 0 (omega arith), drop_more bs (at + 1) 0 (omega arith)) (omega arith)
 
 -- the bytes that the code makes of a number
+pub bytes_two : (n : ℕ) → (n / 256 % 256) ∷ (n % 256) ∷ [] ≡ bytes_of 2 n
+bytes_two n = rw (div-one n)
+
 pub bytes_eight : (n : ℕ) → (n / 72057594037927936 % 256) ∷ (n / 281474976710656 % 256) ∷ (n / 1099511627776 % 256) ∷ (n / 4294967296 % 256) ∷ (n / 16777216 % 256) ∷ (n / 65536 % 256) ∷ (n / 256 % 256) ∷ (n % 256) ∷ [] ≡ bytes_of 8 n
 bytes_eight n = rw (div-one n)
 

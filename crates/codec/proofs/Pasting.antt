@@ -1,12 +1,13 @@
 -- Bytes put into a buffer, one part after another.
-use Rattle.std.proofs.Common.{◌≡◌, ℕ, ◌+◌, ◌*◌, ◌<◌, ◌≤◌, List, [], ◌∷◌, ◌++◌, length, get_or, take, drop, sym, refl, ap, ◌∙◌, mul-le-mul_left, zero-add, mul-one, mul-add, arith}
+use Rattle.std.proofs.Common.{◌≡◌, ℕ, ◌+◌, ◌*◌, ◌<◌, ◌≤◌, List, [], ◌∷◌, ◌++◌, length, get_or, take, drop, sym, refl, ap, ◌∙◌, subst, mul-le-mul_left, mul-one, mul-add, arith}
 use Rattle.std.specs.List.{flat_map}
 use Rattle.std.proofs.lemmas.List.{append_assoc, drop-drop, take_at, drop_at, length-append, length-take-le, take_more, flat_map_more}
 use Rattle.filing.specs.Filing.{FilingFields}
 use Rattle.codec.specs.Fields.{head_field, line_field}
 use Rattle.codec.specs.Numbers.{bytes_of}
 use Rattle.codec.specs.Table.{head_codes, line_codes, written_version, written_row}
-use Rattle.codec.specs.Writing.{pasted, field_bytes, line_bytes, opening_bytes, record_of, written}
+use Rattle.codec.specs.Writing.{pasted, field_bytes, line_bytes, record_of, written, Put}
+use Rattle.codec.specs.declared.writer.Output.{Output}
 
 -- two parts, the second where the first ends
 pub pasted_both : (old xs ys : List ℕ) (at n : ℕ) → n ≡ at + length xs → n + length ys ≤ length old → pasted (pasted old at xs) n ys ≡ pasted old at (xs ++ ys)
@@ -26,20 +27,33 @@ pub length_joined : {X : Type 0} (f : X → List ℕ) (k : ℕ) (each : (x : X) 
 length_joined f k each [] = omega arith
 length_joined f k each (x ∷ xs) = length-append (f x) (flat_map f xs) ∙ omega (arith, each x, length_joined f k each xs, mul-add k 1 (length xs), mul-one k)
 
--- one more of parts that are equally long
-pub pasted_more : {X : Type 0} (f : X → List ℕ) (k : ℕ) (each : (x : X) → length (f x) ≡ k) (old : List ℕ) (at : ℕ) (xs : List X) (i : ℕ) (x : X) (buffer : List ℕ)
-    → x ≡ get_or xs i x → buffer ≡ pasted old at (flat_map f (take i xs)) → i < length xs → at + k * i + k ≤ length old
-    → pasted buffer (at + k * i) (f x) ≡ pasted old at (flat_map f (take (i + 1) xs))
-pasted_more f k each old at xs i x buffer is b h r =
-    let l : length (flat_map f (take i xs)) ≡ k * i = length_joined f k each (take i xs) ∙ ap (λ n. k * n) (length-take-le i xs (omega arith)) in
-    let j : flat_map f (take i xs) ++ f x ≡ flat_map f (take (i + 1) xs) =
-    flat_map_more f [] (take i xs) x ∙ ap (λ y. flat_map f (take i xs ++ y ∷ [])) is ∙ ap (flat_map f) (sym (take_more xs i x h)) in
-    let s = pasted_both old (flat_map f (take i xs)) (f x) at (at + k * i) (omega arith) (omega (arith, each x)) in
-    ap (λ b. pasted b (at + k * i) (f x)) b ∙ s ∙ ap (pasted old at) j
+pub put_is : {a b : Output} {xs ys : List ℕ} → xs ≡ ys → Put a b xs → Put a b ys
+put_is {a} {b} e p = subst (λ bs. Put a b bs) e p
 
--- room for one more of n parts of s bytes
-pub room_more : (s i n at room : ℕ) → i < n → at + s * n ≤ room → at + s * i + s ≤ room
-room_more s i n at room h r = let m : s * (i + 1) ≤ s * n = mul-le-mul_left s (omega arith) in omega (arith, mul-add s i 1, mul-one s)
+pub put_both : {a b c : Output} {xs ys : List ℕ} → Put a b xs → Put b c ys → Put a c (xs ++ ys)
+put_both {a} {b} {c} {xs} {ys} p q =
+    let r : b.at + length ys ≤ length a.buffer.now = omega (arith, p.long, q.room) in
+    record {
+      same = q.same ∙ p.same;
+      room = omega (arith, length-append xs ys, p.ends);
+      long = q.long ∙ p.long;
+      wrote = q.wrote ∙ ap (λ o. pasted o b.at ys) p.wrote ∙ pasted_both a.buffer.now xs ys a.at b.at p.ends r;
+      ends = omega (arith, length-append xs ys, p.ends, q.ends);
+    }
+
+-- room for one more of parts that are equally long, and the part itself
+module _ {X : Type 0} (f : X → List ℕ) (k : ℕ) (each : (x : X) → length (f x) ≡ k) (xs : List X) (i : ℕ) {a b : Output} (p : Put a b (flat_map f (take i xs))) (h : i < length xs) where
+  so_far : length (flat_map f (take i xs)) ≡ k * i
+  so_far = length_joined f k each (take i xs) ∙ ap (λ n. k * n) (length-take-le i xs (omega arith))
+
+  pub put_room : a.at + k * length xs ≤ length a.buffer.now → b.at + k ≤ length b.buffer.now
+  put_room r = let m : k * (i + 1) ≤ k * length xs = mul-le-mul_left k (omega arith) in omega (arith, so_far, p.ends, p.long, mul-add k i 1, mul-one k)
+
+  pub put_more : (x : X) {c : Output} → x ≡ get_or xs i x → Put b c (f x) → Put a c (flat_map f (take (i + 1) xs))
+  put_more x {c} is q =
+      let j : flat_map f (take i xs) ++ f x ≡ flat_map f (take (i + 1) xs) =
+      flat_map_more f [] (take i xs) x ∙ ap (λ y. flat_map f (take i xs ++ y ∷ [])) is ∙ ap (flat_map f) (sym (take_more xs i x h)) in
+      subst (λ bs. Put a c bs) j (put_both p q)
 
 pub length_fields : (codes : List ℕ) (value : ℕ → ℕ) → length (field_bytes codes value) ≡ 8 * length codes
 length_fields codes value = length_joined (λ c. bytes_of 8 (value c)) 8 (λ c. refl) codes
@@ -67,27 +81,6 @@ module _ (v : ℕ) (row : List ℕ) (f : FilingFields) (heads lines many : ℕ) 
         length-append (field_bytes (head_codes row) (head_field f.head)) (length f.lines ∷ flat_map (line_bytes (line_codes row)) f.lines),
         length-append row (field_bytes (head_codes row) (head_field f.head) ++ (length f.lines ∷ flat_map (line_bytes (line_codes row)) f.lines)),
       )
-
-  pub record_parts : (old b1 b2 b3 b4 : List ℕ) → size ≤ length old
-      → b1 ≡ pasted old 0 (opening_bytes v row)
-      → b2 ≡ pasted b1 (6 + length row) (field_bytes (head_codes row) (head_field f.head))
-      → b3 ≡ pasted b2 (6 + length row + heads) (length f.lines ∷ [])
-      → b4 ≡ pasted b3 (6 + length row + heads + 1) (flat_map (line_bytes (line_codes row)) f.lines)
-      → b4 ≡ record_of v row f ++ drop (length (record_of v row f)) old
-  record_parts old b1 b2 b3 b4 h e1 e2 e3 e4 =
-      let a : List ℕ = opening_bytes v row in
-      let b : List ℕ = field_bytes (head_codes row) (head_field f.head) in
-      let c : List ℕ = length f.lines ∷ [] in
-      let d : List ℕ = flat_map (line_bytes (line_codes row)) f.lines in
-      let la : length a ≡ 6 + length row = omega arith in
-      let lab : length (a ++ b) ≡ 6 + length row + heads = length-append a b ∙ omega (arith, la, length_heading) in
-      let labc : length ((a ++ b) ++ c) ≡ 6 + length row + heads + 1 = length-append (a ++ b) c ∙ omega (arith, lab) in
-      let s2 : b2 ≡ pasted old 0 (a ++ b) = e2 ∙ ap (λ x. pasted x (6 + length row) b) e1 ∙ pasted_both old a b 0 (6 + length row) (omega arith) (omega (arith, length_heading)) in
-      let s3 : b3 ≡ pasted old 0 ((a ++ b) ++ c) = e3 ∙ ap (λ x. pasted x (6 + length row + heads) c) s2 ∙ pasted_both old (a ++ b) c 0 (6 + length row + heads) (omega arith) (omega arith) in
-      let s4 : b4 ≡ pasted old 0 (((a ++ b) ++ c) ++ d) =
-      e4 ∙ ap (λ x. pasted x (6 + length row + heads + 1) d) s3
-      ∙ pasted_both old ((a ++ b) ++ c) d 0 (6 + length row + heads + 1) (omega arith) (omega (arith, length_lines)) in
-      s4 ∙ ap (pasted old 0) (append_assoc (a ++ b) c d ∙ append_assoc a b (c ++ d)) ∙ ap (λ m. record_of v row f ++ drop m old) (zero-add (length (record_of v row f)))
 
 pub same_record : (v : ℕ) (row : List ℕ) {f g : FilingFields} → v ≡ written_version → row ≡ written_row → f ≡ g → record_of v row f ≡ written g
 same_record v row {f} {g} a b c = ap (λ u. record_of u row f) a ∙ ap (λ r. record_of written_version r f) b ∙ ap written c

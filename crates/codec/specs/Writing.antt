@@ -7,6 +7,7 @@ use Rattle.codec.specs.Fields.{head_field, line_field}
 use Rattle.codec.specs.Numbers.{bytes_of}
 use Rattle.codec.specs.Table.{written_version, written_row, head_codes, line_codes}
 use Rattle.codec.specs.declared.faults.WriteFault.{WriteFault}
+use Rattle.codec.specs.declared.writer.Output.{Output}
 
 -- eight bytes for each code
 abbrev pub field_bytes : List ℕ → (ℕ → ℕ) → List ℕ
@@ -29,6 +30,14 @@ written f = record_of written_version written_row f
 -- bytes over those that stand at a place
 abbrev pub pasted : List ℕ → ℕ → List ℕ → List ℕ
 pasted old at bs = take at old ++ (bs ++ drop (at + length bs) old)
+
+-- bytes put where a buffer is filled to: it is the same buffer, filled to their end, and nothing else in it changes
+pub record Put (old new : Output) (bs : List ℕ) : Type 0 where
+  pub same : new.buffer.ghost_name ≡ old.buffer.ghost_name
+  pub room : old.at + length bs ≤ length old.buffer.now
+  pub long : length new.buffer.now ≡ length old.buffer.now
+  pub wrote : new.buffer.now ≡ pasted old.buffer.now old.at bs
+  pub ends : new.at ≡ old.at + length bs
 
 -- with room for them, the bytes and then the old ones; with too little, no change
 abbrev pub Written : Result ℕ WriteFault → List ℕ → List ℕ → List ℕ → Type 0

@@ -7,14 +7,8 @@ use crate::faults::ReadFault;
 use crate::input::Input;
 use crate::table::{Codes, first_off};
 
-/// Where the version stands, after the mark.
-pub(crate) const VERSION_AT: usize = 3;
-
 /// Where the count of the schema's codes stands.
 pub(crate) const COUNT_AT: usize = 5;
-
-/// Where the schema's codes begin.
-pub(crate) const CODES_AT: usize = 6;
 
 /// The version, once the mark is seen.
 pub(crate) fn opening(bytes: &[u8]) -> Result<u16, ReadFault>
