@@ -70,7 +70,7 @@ impl fmt::Display for RefusedRecord {
 }
 
 /// The records of a file from the front, up to its end or to the first that is refused.
-#[derive(Clone, Copy)]
+#[derive(Drop)]
 struct Records<'a> {
     rest: &'a [u8],
     offset: usize,
