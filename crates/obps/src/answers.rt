@@ -1,4 +1,5 @@
 //! Answers as the program prints them.
+use filing::faults::FilingFault;
 use filing::fields::LineFields;
 use filing::filing::Filing;
 use filing::parts::Line;
@@ -7,9 +8,9 @@ use journal::excerpt::Excerpt;
 use journal::steps::Misread;
 use std::fmt;
 
-/// An answer in words.
+/// What a step is answered, in words.
 #[derive(Clone, Copy)]
-pub struct Said(pub Answer);
+pub struct Said(pub Result<Answer, FilingFault>);
 
 /// A signed filing in one line.
 #[derive(Clone, Copy)]
@@ -66,11 +67,11 @@ impl fmt::Display for Summary<'_> {
 impl fmt::Display for Said {
     fn fmt<W: fmt::Write>(&self, f: &mut fmt::Formatter<W>) -> fmt::Result {
         match self.0 {
-            Answer::Set => write!(f, "set"),
-            Answer::Line(place) => write!(f, "line {place}"),
-            Answer::Blank => write!(f, "blank"),
-            Answer::Signed(signed) => write!(f, "signed {}", Summary(signed.filing())),
-            Answer::Refused(fault) => write!(f, "refused {fault}"),
+            Ok(Answer::Set) => write!(f, "set"),
+            Ok(Answer::Line(place)) => write!(f, "line {place}"),
+            Ok(Answer::Blank) => write!(f, "blank"),
+            Ok(Answer::Signed(signed)) => write!(f, "signed {}", Summary(signed.filing())),
+            Err(fault) => write!(f, "refused {fault}"),
         }
     }
 }
