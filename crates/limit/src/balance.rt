@@ -12,7 +12,6 @@ pub fn balance(outcome: &Outcome, emissions: Tonnes) -> i64
 {
     match outcome {
         Outcome::Limit(limit) => limit.tonnes as i64 - emissions.tonnes as i64,
-        Outcome::NoLimit(_) => 0,
-        Outcome::Fault { .. } => 0,
+        Outcome::NoLimit(_) | Outcome::Fault { .. } => 0,
     }
 }

@@ -24,6 +24,7 @@ pub fn limit_of(calculation: Calculation, at: FacilityYear<'_>, filing: &Filing)
 {
     let lines = filing.lines();
     let mut sum = 0;
+    // A `for` with an index, asked for in this form: it stops at the first fault, whose line it counts.
     for (i, line) in lines.iter().enumerate() {
         match at.contribution(calculation, line) {
             Ok(part) => sum += part.ten_millionths,

@@ -3,18 +3,19 @@ use quantity::units::Tonnes;
 use standard::causes::Cause;
 
 /// Why a year has no limit.
-#[derive(Clone, Copy)]
+#[derive(Clone, Copy, Debug, PartialEq, Eq)]
 pub enum NoLimit {
     /// Nothing stands at the year, or it has no place.
-    Vacant,
+    Vacant = 15,
     /// Limits begin with 2019.
-    Early,
+    Early = 41,
     /// The facility began to produce too short a time ago.
-    Exempt,
+    Exempt = 42,
 }
 
-/// What a limit method makes of a year.
-#[derive(Clone, Copy)]
+/// What a limit method makes of a year: three answers of one rank. It is no `Result`, since a year without a
+/// limit is assessed all the same, and so is one with a fault.
+#[derive(Clone, Copy, Debug, PartialEq, Eq)]
 pub enum Outcome {
     Limit(Tonnes),
     NoLimit(NoLimit),

@@ -10,11 +10,7 @@ impl NoLimit {
     pub fn number(&self) -> u64
         ensures { result ≡ no_limit_number self.now }
     {
-        match self {
-            NoLimit::Vacant => 15,
-            NoLimit::Early => 41,
-            NoLimit::Exempt => 42,
-        }
+        *self as u64
     }
 }
 

@@ -1,6 +1,6 @@
 -- What stands at a year's place.
 use Rattle.std.proofs.Common.{◌≡◌, ℕ, ◌-◌, ◌<◌, ◌≤◌, Bool, true, false, cond, ◌&&◌, leb, List, length, get_or, Some, None, Option, sym, refl, ap, ◌∙◌, arith}
-use Rattle.std.proofs.lemmas.List.{length-map, get_or-map, get_or_past}
+use Rattle.std.proofs.lemmas.List.{get_or-map}
 use Rattle.std.proofs.lemmas.Bool.{le-leb, leb-true, and_from, and_parts, cond-true}
 use Rattle.filing.specs.Filing.{FilingFields}
 use Rattle.filing.specs.declared.signed.Signed.{Signed}
@@ -8,15 +8,6 @@ use Rattle.standard.specs.Places.{Places, standing, filing_at, filings}
 use Rattle.standard.specs.Reference.{has_activity, qualifies, figures_of, figures_at}
 use Rattle.standard.specs.Views.{year_figures}
 use Rattle.standard.specs.declared.units.ReferenceYear.{ReferenceYear}
-
-same_either : {X : Type 0} (b : Bool) (x : X) → cond b x x ≡ x
-same_either true x = refl
-same_either false x = refl
-
-pub stands_none : (ps : List (Option Signed)) (y : ℕ) → length ps ≤ y - 2017 → standing (filings ps) y ≡ None
-stands_none ps y past =
-    ap (λ p. cond (leb 2017 y && leb y 2036) p None) (get_or_past (filings ps) (y - 2017) None (omega (arith, length-map ps filing_at)))
-    ∙ same_either (leb 2017 y && leb y 2036) None
 
 pub stands_at : (ps : List (Option Signed)) (y : ℕ) (p : Option Signed) → length ps ≤ 20 → 2017 ≤ y → y - 2017 < length ps → p ≡ get_or ps (y - 2017) p → filing_at p ≡ standing (filings ps) y
 stands_at ps y p few from below is =

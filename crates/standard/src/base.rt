@@ -8,13 +8,14 @@ ghost use Rattle.standard.specs.Seen.{seen};
 
 use crate::activity::Activity;
 use crate::facility::FacilityYear;
+use crate::places::{FIRST_YEAR, YEARS};
 use crate::units::ReferenceYear;
 
 /// The first year that may be a base year.
 const FIRST_BASE: u64 = 2019;
 
 /// The year after the last that has a place.
-const AFTER_LAST: u64 = 2037;
+const AFTER_LAST: u64 = FIRST_YEAR + YEARS;
 
 impl Activity<'_> {
     /// Whether a year may be the base year: it is not exempt, and has a line of the activity.

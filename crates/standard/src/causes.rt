@@ -8,13 +8,13 @@ use std::fmt;
 #[derive(Clone, Copy, Debug, PartialEq, Eq)]
 pub enum Cause {
     /// The method serves no calculated lines.
-    Method,
+    Method = 31,
     /// No reference year qualifies.
-    Reference,
+    Reference = 32,
     /// The calculated standard is above the most, as rounded.
-    Large,
+    Large = 33,
     /// There is production and no capacity.
-    Capacity,
+    Capacity = 34,
 }
 
 impl Cause {
@@ -22,12 +22,7 @@ impl Cause {
     pub fn number(&self) -> u64
         ensures { result ≡ cause_number self.now }
     {
-        match self {
-            Cause::Method => 31,
-            Cause::Reference => 32,
-            Cause::Large => 33,
-            Cause::Capacity => 34,
-        }
+        *self as u64
     }
 }
 

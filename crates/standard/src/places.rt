@@ -21,16 +21,17 @@ pub fn at_year<T>(places: &[Option<T>; 20], year: u64) -> Option<&T>
 }
 
 /// How many years have a place.
-const YEARS: u64 = 20;
+pub(crate) const YEARS: u64 = 20;
 
 /// How many places there are up to and with that of a year.
 fn count_to(year: u64) -> usize
     ensures { result ≡ min (year - 2016) 20 }
 {
-    year.saturating_sub(2016).min(YEARS) as usize
+    year.saturating_sub(FIRST_YEAR - 1).min(YEARS) as usize
 }
 
-/// The places of the years up to and with a year.
+/// The places of the years up to and with a year. No method of `FacilityYear`: that an array has its
+/// twenty places is known of a parameter, and not of a field.
 pub(crate) fn up_to(places: &[Option<Signed>; 20], year: u64) -> &[Option<Signed>]
     ensures value { filings result.now ≡ up_to year (filings places.now) }
     ensures few { length result.now ≤ 20 }
