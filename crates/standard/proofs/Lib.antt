@@ -1,4 +1,3 @@
-pub mod Taking
 pub mod Lines
 pub mod Filed
 pub mod Standing

@@ -5,12 +5,11 @@ use Rattle.std.proofs.lemmas.List.Sums.{sum_by-cons, sum_by-le, length-filter, c
 use Rattle.std.proofs.lemmas.Bool.{lt-ltb}
 use Rattle.std.specs.List.{list_any}
 use Rattle.filing.specs.declared.fields.LineFields.{LineFields}
-use Rattle.standard.specs.Reference.{some}
 
--- a line that passes, of lines seen by g
-pub some-map : {X : Type 0} (p : LineFields → Bool) (g : X → LineFields) (xs : List X) → some p (map g xs) ≡ list_any (λ x. p (g x)) xs
-some-map p g [] = refl
-some-map p g (x ∷ xs) = ap (λ b. p (g x) || b) (some-map p g xs)
+-- an element that passes, of what g makes of others
+pub list_any-map : {X Y : Type 0} (p : Y → Bool) (g : X → Y) (xs : List X) → list_any p (map g xs) ≡ list_any (λ x. p (g x)) xs
+list_any-map p g [] = refl
+list_any-map p g (x ∷ xs) = ap (λ b. p (g x) || b) (list_any-map p g xs)
 
 module _ {X Y : Type 0} (f : Y → ℕ) (p : Y → Bool) (g : X → Y) where
   taken : (b : Bool) (x : X) (xs : List X) (ys : List Y) → sum_by f ys ≡ sum_by (λ z. f (g z)) xs → sum_by f (cond b (g x ∷ ys) ys) ≡ sum_by (λ z. f (g z)) (cond b (x ∷ xs) xs)
@@ -32,11 +31,11 @@ module _ (p : LineFields → Bool) (f : LineFields → ℕ) where
   abbrev pub Counts : List LineFields → Type 0
   Counts ls = (i : ℕ) (d : LineFields) → i < length ls → p (get_or ls i d) ≡ true → 1 ≤ f (get_or ls i d)
 
-  step : (b : Bool) (l : LineFields) (ls : List LineFields) → (b ≡ true → 1 ≤ f l) → some p ls ≡ ltb 0 (sum_by f (filter p ls)) → (b || some p ls) ≡ ltb 0 (sum_by f (cond b (l ∷ filter p ls) (filter p ls)))
+  step : (b : Bool) (l : LineFields) (ls : List LineFields) → (b ≡ true → 1 ≤ f l) → list_any p ls ≡ ltb 0 (sum_by f (filter p ls)) → (b || list_any p ls) ≡ ltb 0 (sum_by f (cond b (l ∷ filter p ls) (filter p ls)))
   step true l ls h e = sym (lt-ltb 0 _ (omega (arith, h refl, sum_by-cons f l (filter p ls))))
   step false l ls h e = e
 
   -- then the sum is above 0 just where a line passes
-  pub some_passed : (ls : List LineFields) → Counts ls → some p ls ≡ ltb 0 (sum_by f (filter p ls))
+  pub some_passed : (ls : List LineFields) → Counts ls → list_any p ls ≡ ltb 0 (sum_by f (filter p ls))
   some_passed [] h = refl
   some_passed (l ∷ ls) h = step (p l) l ls (h 0 l (omega arith)) (some_passed ls (λ i d b. h (suc i) d (omega arith)))

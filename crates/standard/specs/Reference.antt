@@ -1,5 +1,6 @@
 -- The reference years of an activity, and what each has of it.
-use Rattle.std.specs.Prelude.{◌≡◌, ℕ, zero, suc, ◌-◌, ◌≤◌, Bool, true, false, cond, not, ◌&&◌, ◌||◌, List, [], ◌∷◌, map, Some, None, sum_by, filter, Option, ◌==◌, ◌≢◌}
+use Rattle.std.specs.Prelude.{◌≡◌, ℕ, zero, suc, ◌-◌, ◌≤◌, Bool, true, false, cond, not, ◌&&◌, List, [], ◌∷◌, map, Some, None, sum_by, filter, Option, ◌==◌, ◌≢◌}
+use Rattle.std.specs.List.{list_any}
 use Rattle.filing.specs.Emissions.{total}
 use Rattle.filing.specs.Filing.{FilingFields}
 use Rattle.filing.specs.Kinds.{kind_number}
@@ -13,13 +14,9 @@ use Rattle.standard.specs.Places.{Places, standing}
 abbrev pub of_activity : ℕ → LineFields → Bool
 of_activity activity l = l.kind == kind_number Calculated && l.number == activity
 
-abbrev pub some : (LineFields → Bool) → List LineFields → Bool
-some test [] = false
-some test (l ∷ ls) = test l || some test ls
-
 abbrev pub has_activity : ℕ → Option FilingFields → Bool
 has_activity activity None = false
-has_activity activity (Some f) = some (of_activity activity) f.lines
+has_activity activity (Some f) = list_any (of_activity activity) f.lines
 
 -- a year qualifies as a reference year: a filing with a calculated line of the activity stands there
 abbrev pub qualifies : Places → ℕ → ℕ → Bool

@@ -69,7 +69,7 @@ fn added_by_filing(filing: &Filing, unit: u16, year: u64) -> Capacity
     let lines = filing.lines();
     let mut triggering = 0;
     let mut other = 0;
-    // A `for`: two figures are summed at once, and a chain for each would sort the lines twice.
+    // A `for`: each line adds to one of two sums. Chains would be two functions for this one, alike but for the test.
     for line in lines {
         let added = added_by_line(line, unit, year);
         triggering += added.triggering;
@@ -102,7 +102,7 @@ impl FacilityYear<'_> {
         let past = up_to(self.places, self.year);
         let mut triggering = 0;
         let mut other = 0;
-        // A `for`: two figures are summed at once, and a chain for each would go through the filings twice.
+        // A `for`, as in a filing: two sums at once.
         for (i, place) in past.iter().enumerate() {
             let added = added_by_place(place, unit, FIRST_YEAR + i as u64);
             triggering += added.triggering;
