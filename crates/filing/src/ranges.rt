@@ -1,5 +1,5 @@
 //! The ranges of the fields, in the order of their codes.
-ghost use Rattle.std.specs.Prelude.{◌≡◌, ℕ, ◌+◌, ◌<◌, ◌≤◌, length, IfSome};
+ghost use Rattle.std.specs.Prelude.{◌≡◌, ◌+◌, ◌<◌, ◌≤◌, IfSome};
 ghost use Rattle.std.specs.List.{zip, position};
 ghost use Rattle.filing.specs.Ranges.{head_ranges, line_ranges, outside, first_outside};
 

@@ -1,5 +1,5 @@
 //! Sums and searches over a head and lines.
-ghost use Rattle.std.specs.Prelude.{◌≡◌, ℕ, ◌+◌, ◌*◌, ◌≤◌, true, map, length};
+ghost use Rattle.std.specs.Prelude.{◌≡◌, ◌≤◌, true, map, length};
 ghost use Rattle.std.specs.List.{list_any};
 ghost use Rattle.filing.specs.Checks.{most_lines};
 ghost use Rattle.filing.specs.Emissions.{total};
