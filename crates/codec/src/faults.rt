@@ -26,7 +26,7 @@ pub enum ReadFault {
 #[derive(Clone, Copy, Debug, PartialEq, Eq)]
 pub enum WriteFault {
     /// The buffer is too small.
-    Short,
+    Short = 10,
 }
 
 impl From<FilingFault> for ReadFault {
@@ -57,9 +57,7 @@ impl WriteFault {
     pub fn number(&self) -> u64
         ensures { result ≡ (write_told self.now).number }
     {
-        match self {
-            WriteFault::Short => 10,
-        }
+        *self as u64
     }
 }
 

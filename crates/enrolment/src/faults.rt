@@ -8,7 +8,7 @@ use std::fmt;
 #[derive(Clone, Copy, Debug, PartialEq, Eq)]
 pub enum EnrolmentFault {
     /// A field is outside its range.
-    Outside,
+    Outside = 13,
 }
 
 impl EnrolmentFault {
@@ -16,9 +16,7 @@ impl EnrolmentFault {
     pub fn number(&self) -> u64
         ensures { result ≡ (enrolment_told self.now).number }
     {
-        match self {
-            EnrolmentFault::Outside => 13,
-        }
+        *self as u64
     }
 }
 

@@ -10,21 +10,21 @@ use std::fmt;
 #[derive(Clone, Copy, Debug, PartialEq, Eq)]
 pub enum Refusal {
     /// The facility is not enrolled.
-    Unknown,
+    Unknown = 11,
     /// The facility is enrolled already.
-    Enrolled,
+    Enrolled = 12,
     /// A field of the enrolment is outside its range.
-    Enrolment,
+    Enrolment = 13,
     /// A filing stands at the place.
-    Stands,
+    Stands = 14,
     /// Nothing stands at the place, or the year has none.
-    Vacant,
+    Vacant = 15,
     /// The undo log is full.
-    Book,
+    Book = 16,
     /// The undo log is empty.
-    Bare,
+    Bare = 17,
     /// The last number is used.
-    Spent,
+    Spent = 18,
 }
 
 impl From<EnrolmentFault> for Refusal {
@@ -42,16 +42,7 @@ impl Refusal {
     pub fn number(&self) -> u64
         ensures { result ≡ (refusal_told self.now).number }
     {
-        match self {
-            Refusal::Unknown => 11,
-            Refusal::Enrolled => 12,
-            Refusal::Enrolment => 13,
-            Refusal::Stands => 14,
-            Refusal::Vacant => 15,
-            Refusal::Book => 16,
-            Refusal::Bare => 17,
-            Refusal::Spent => 18,
-        }
+        *self as u64
     }
 }
 
