@@ -10,7 +10,7 @@ use crate::numbers::{NumberFault, decimal};
 use filing::fields::{HeadFields, LineFields};
 
 /// What one line of a journal asks for.
-#[derive(Clone, Copy)]
+#[derive(Clone, Copy, Debug, PartialEq, Eq)]
 pub enum Step {
     Head(HeadFields),
     Line(LineFields),
@@ -20,7 +20,7 @@ pub enum Step {
 
 /// Why a line says no step. `at` counts the words of the line from 1, so that the step's own word is at 1.
 // No struct of a place and a cause: an unknown step is always at 1, and such a struct could put it elsewhere.
-#[derive(Clone, Copy)]
+#[derive(Clone, Copy, Debug, PartialEq, Eq)]
 pub enum Misread {
     UnknownStep,
     Missing { at: usize },

@@ -4,6 +4,7 @@ use crate::numbers::{NumberFault, decimal};
 use crate::sources::{is_hex, record_word, unhexed};
 use crate::steps::{Misread, Step, read_step};
 use crate::words::words;
+use filing::fields::{HeadFields, LineFields};
 use std::test::Fail;
 
 #[test]
@@ -43,50 +44,44 @@ fn numerals(rt: HostRuntime) {
     }
 }
 
-/// What was read, as numbers: which case it is, and its values.
-fn outline(read: Result<Option<Step>, Misread>) -> [u64; 8] {
-    match read {
-        Ok(None) => [0; 8],
-        Ok(Some(Step::Head(h))) => [
-            1, h.facility, h.year, h.co2, h.ch4, h.n2o, h.sf6, h.captured,
-        ],
-        Ok(Some(Step::Line(l))) => [
-            2,
-            l.kind,
-            l.number,
-            l.production,
-            l.standard,
-            l.attributed,
-            l.added,
-            l.ratio,
-        ],
-        Ok(Some(Step::Blank)) => [3, 0, 0, 0, 0, 0, 0, 0],
-        Ok(Some(Step::Sign)) => [4, 0, 0, 0, 0, 0, 0, 0],
-        Err(Misread::UnknownStep) => [5, 0, 0, 0, 0, 0, 0, 0],
-        Err(Misread::Missing { at }) => [6, at as u64, 0, 0, 0, 0, 0, 0],
-        Err(Misread::NoNumber { at }) => [7, at as u64, 0, 0, 0, 0, 0, 0],
-        Err(Misread::TooLarge { at }) => [8, at as u64, 0, 0, 0, 0, 0, 0],
-        Err(Misread::Extra { at }) => [9, at as u64, 0, 0, 0, 0, 0, 0],
-    }
-}
-
 #[test]
 fn steps(rt: HostRuntime) -> Result<(), Fail> {
-    let lines: [(&[u8], [u64; 8]); 10] = [
-        (b"", [0; 8]),
-        (b"head 1 2 3 4 5 6 7", [1, 1, 2, 3, 4, 5, 6, 7]),
-        (b"line 1 2 3 4 5 6 7", [2, 1, 2, 3, 4, 5, 6, 7]),
-        (b"blank", [3, 0, 0, 0, 0, 0, 0, 0]),
-        (b" sign # now", [4, 0, 0, 0, 0, 0, 0, 0]),
-        (b"Head 1", [5, 0, 0, 0, 0, 0, 0, 0]),
-        (b"head 1 2", [6, 4, 0, 0, 0, 0, 0, 0]),
-        (b"line 1 -2", [7, 3, 0, 0, 0, 0, 0, 0]),
-        (b"head 18446744073709551616", [8, 2, 0, 0, 0, 0, 0, 0]),
-        (b"sign 1", [9, 2, 0, 0, 0, 0, 0, 0]),
+    let head = HeadFields {
+        facility: 1,
+        year: 2,
+        co2: 3,
+        ch4: 4,
+        n2o: 5,
+        sf6: 6,
+        captured: 7,
+    };
+    let line = LineFields {
+        kind: 1,
+        number: 2,
+        production: 3,
+        standard: 4,
+        attributed: 5,
+        added: 6,
+        ratio: 7,
+    };
+    let lines: [(&[u8], Result<Option<Step>, Misread>); 10] = [
+        (b"", Ok(None)),
+        (b"head 1 2 3 4 5 6 7", Ok(Some(Step::Head(head)))),
+        (b"line 1 2 3 4 5 6 7", Ok(Some(Step::Line(line)))),
+        (b"blank", Ok(Some(Step::Blank))),
+        (b" sign # now", Ok(Some(Step::Sign))),
+        (b"Head 1", Err(Misread::UnknownStep)),
+        (b"head 1 2", Err(Misread::Missing { at: 4 })),
+        (b"line 1 -2", Err(Misread::NoNumber { at: 3 })),
+        (
+            b"head 18446744073709551616",
+            Err(Misread::TooLarge { at: 2 }),
+        ),
+        (b"sign 1", Err(Misread::Extra { at: 2 })),
     ];
     for (line, expected) in lines {
         let found = words(rt.alloc(), line)?;
-        assert_eq!(rt; outline(read_step(found.as_slice())), expected);
+        assert_eq!(rt; read_step(found.as_slice()), expected);
     }
     Ok(())
 }
