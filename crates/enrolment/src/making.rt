@@ -26,11 +26,13 @@ impl From<Enrolment> for EnrolmentFields {
     }
 }
 
-impl Enrolment {
-    /// The enrolment of these fields, refused where one is outside its range.
-    pub fn new(fields: EnrolmentFields) -> Result<Enrolment, EnrolmentFault>
-        ensures { Enrols fields result }
-    {
+/// The enrolment of these fields, refused where one is outside its range.
+impl TryFrom<EnrolmentFields> for Enrolment {
+    type Error = EnrolmentFault;
+
+    ghost try_from_gives = { Enrols };
+
+    fn try_from(fields: EnrolmentFields) -> Result<Enrolment, EnrolmentFault> {
         let kind = EnrolmentKind::try_from(fields.kind)?;
         let choice = Choice::try_from(fields.choice)?;
         if !(1..=4).contains(&fields.facility)
@@ -49,7 +51,9 @@ impl Enrolment {
             factor: fields.factor as u8,
         })
     }
+}
 
+impl Enrolment {
     /// The first calendar year that begins on or after first production.
     pub fn first_year(&self) -> u64
         ensures value { result ≡ first_year (enrolled self.now) }

@@ -49,7 +49,7 @@ impl Filing {
     pub(crate) fn with_head(&self, fields: HeadFields) -> Result<Filing, FilingFault>
         ensures { Built result (heading (fields_of self.now) fields) }
     {
-        let head = Head::checked(fields)?;
+        let head = Head::try_from(fields)?;
         if total_kg(&head) < attributed_kg(self.lines()) {
             return Err(FilingFault::Attributed);
         }

@@ -68,11 +68,13 @@ impl From<Line> for LineFields {
     }
 }
 
-impl Head {
-    /// The head with these fields, if each is in its range.
-    pub(crate) fn checked(fields: HeadFields) -> Result<Head, FilingFault>
-        ensures { HeadMade fields result }
-    {
+/// The head with these fields, if each is in its range.
+impl TryFrom<HeadFields> for Head {
+    type Error = FilingFault;
+
+    ghost try_from_gives = { HeadMade };
+
+    fn try_from(fields: HeadFields) -> Result<Head, FilingFault> {
         let values = [
             fields.facility,
             fields.year,

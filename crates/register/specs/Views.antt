@@ -1,5 +1,5 @@
 -- The plain numbers of what a register holds.
-use Rattle.std.specs.Prelude.{◌≡◌, ℕ, ◌+◌, ◌-◌, cond, List, replicate, Some, None, Ok, Err, Option, Result, slice_index_or}
+use Rattle.std.specs.Prelude.{◌≡◌, ℕ, ◌+◌, ◌-◌, cond, replicate, Some, None, Ok, Err, Option, Result, slice_index_or}
 use Rattle.std.specs.Option.{option_map}
 use Rattle.filing.specs.Emissions.{emissions as emissions_of}
 use Rattle.filing.specs.Filing.{FilingFields}

@@ -21,7 +21,7 @@ impl<M: LimitMethod> Register<M> {
         ensures lives { Lives M.LimitMethod.meaning self.old self.new (enrol_call fields) (λ m cs. enrol_answer result ≡ answer_to (M.LimitMethod.meaning m) (enrol_call fields) cs) }
         ensures refused { OnErr result (self.new ≡ self.old) }
     {
-        let enrolment = Enrolment::new(fields)?;
+        let enrolment = Enrolment::try_from(fields)?;
         let i = (enrolment.facility - 1) as usize;
         if self.plants[i].enrolment.is_some() {
             return Err(Refusal::Enrolled);

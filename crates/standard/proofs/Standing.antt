@@ -1,19 +1,11 @@
 -- What stands at a year's place.
-use Rattle.std.proofs.Common.{◌≡◌, ℕ, ◌-◌, ◌<◌, ◌≤◌, Bool, true, false, cond, ◌&&◌, leb, List, length, get_or, Some, None, Option, sym, refl, ap, ◌∙◌, arith}
-use Rattle.std.proofs.lemmas.List.{get_or-map}
-use Rattle.std.proofs.lemmas.Bool.{le-leb, leb-true, and_from, and_parts, cond-true}
+use Rattle.std.proofs.Common.{◌≡◌, ℕ, ◌≤◌, Bool, true, false, cond, leb, Some, None, Option, sym, refl, ap, ◌∙◌}
+use Rattle.std.proofs.lemmas.Bool.{leb-true, and_parts}
 use Rattle.filing.specs.Filing.{FilingFields}
-use Rattle.filing.specs.declared.signed.Signed.{Signed}
-use Rattle.standard.specs.Places.{Places, standing, filing_at, filings}
+use Rattle.standard.specs.Places.{Places, standing}
 use Rattle.standard.specs.Reference.{has_activity, qualifies, figures_of, figures_at}
 use Rattle.standard.specs.Views.{year_figures}
 use Rattle.standard.specs.declared.units.ReferenceYear.{ReferenceYear}
-
-pub stands_at : (ps : List (Option Signed)) (y : ℕ) (p : Option Signed) → length ps ≤ 20 → 2017 ≤ y → y - 2017 < length ps → p ≡ get_or ps (y - 2017) p → filing_at p ≡ standing (filings ps) y
-stands_at ps y p few from below is =
-    ap filing_at is
-    ∙ sym (get_or-map filing_at ps (y - 2017) p None below)
-    ∙ sym (cond-true (leb 2017 y && leb y 2036) _ _ (and_from _ _ (le-leb 2017 y from) (le-leb y 2036 (omega arith))))
 
 placed : (a : ℕ) (b : Bool) (p : Option FilingFields) → has_activity a (cond b p None) ≡ true → b ≡ true
 placed a true p h = refl

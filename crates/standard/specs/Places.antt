@@ -12,9 +12,9 @@ Places = List (Option FilingFields)
 abbrev pub at_year : {X : Type 0} → List (Option X) → ℕ → Option X
 at_year ps y = cond (nat_le 2017 y && nat_le y 2036) (slice_index_or ps (y - 2017) None) None
 
--- what stands at a year; years outside 2017 to 2036 have no place
+-- the filing that stands at a year
 abbrev pub standing : Places → ℕ → Option FilingFields
-standing ps y = cond (nat_le 2017 y && nat_le y 2036) (slice_index_or ps (y - 2017) None) None
+standing ps y = at_year ps y
 
 -- the places of the years up to and with y
 abbrev pub up_to : ℕ → Places → Places

@@ -27,7 +27,7 @@ const TRIGGER_RATIO: u16 = 900;
 fn of_unit(line: &Line, unit: u16) -> bool
     ensures { (year : ℕ) → result ≡ of_unit unit (dated year (line_fields line.now)) }
 {
-    matches!(line.kind, LineKind::Gaseous) && line.number == unit
+    line.kind == LineKind::Gaseous && line.number == unit
 }
 
 /// Whether an addition in that year triggers the decreasing standard.

@@ -18,7 +18,7 @@ use filing::signed::Signed;
 fn of_activity(line: &Line, activity: u16) -> bool
     ensures { result ≡ of_activity activity (line_fields line.now) }
 {
-    matches!(line.kind, LineKind::Calculated) && line.number == activity
+    line.kind == LineKind::Calculated && line.number == activity
 }
 
 /// Whether a line of the filing is of the activity.
