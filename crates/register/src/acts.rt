@@ -35,7 +35,7 @@ impl<M: LimitMethod> Register<M> {
         ensures lives { Lives M.LimitMethod.meaning self.old self.new (file_call (filed signed)) (λ m cs. number_answer result ≡ answer_to (M.LimitMethod.meaning m) (file_call (filed signed)) cs) }
         ensures refused { OnErr result (self.new ≡ self.old) }
     {
-        let place = Place::of(&signed);
+        let place = Place::from(&signed);
         let enrolment = self.enrolment_of(place.facility)?;
         if self.standing(place).is_some() {
             return Err(Refusal::Stands);
@@ -48,7 +48,7 @@ impl<M: LimitMethod> Register<M> {
         ensures lives { Lives M.LimitMethod.meaning self.old self.new (amend_call (filed signed)) (λ m cs. number_answer result ≡ answer_to (M.LimitMethod.meaning m) (amend_call (filed signed)) cs) }
         ensures refused { OnErr result (self.new ≡ self.old) }
     {
-        let place = Place::of(&signed);
+        let place = Place::from(&signed);
         let enrolment = self.enrolment_of(place.facility)?;
         let before = self.standing(place).ok_or(Refusal::Vacant)?;
         self.act(place, &enrolment, Some(before), Some(signed))

@@ -24,6 +24,19 @@ pub(crate) struct Place {
     ghost year_range: { (2017 ≤ year) × (year ≤ 2036) },
 }
 
+/// The place that a filing is for.
+impl From<&Signed> for Place {
+    ghost from_gives = { λ signed place. (place.facility ≡ (filed signed.now).head.facility) × (place.year ≡ (filed signed.now).head.year) };
+
+    fn from(signed: &Signed) -> Place {
+        let head = signed.filing().head();
+        Place {
+            facility: u64::from(head.facility),
+            year: u64::from(head.year),
+        }
+    }
+}
+
 impl Place {
     /// The place of a facility and year, where there is one.
     pub(crate) fn new(facility: u64, year: u64) -> Option<Place>
@@ -33,18 +46,6 @@ impl Place {
             return None;
         }
         Some(Place { facility, year })
-    }
-
-    /// The place that a filing is for.
-    pub(crate) fn of(signed: &Signed) -> Place
-        ensures facility { result.facility ≡ (filed signed.now).head.facility }
-        ensures year { result.year ≡ (filed signed.now).head.year }
-    {
-        let head = signed.filing().head();
-        Place {
-            facility: u64::from(head.facility),
-            year: u64::from(head.year),
-        }
     }
 
     /// Where its facility stands among the four.
