@@ -1,9 +1,8 @@
 -- What one turn over a row of numbers keeps.
 use Rattle.std.proofs.Common.{◌≡◌, ℕ, suc, ◌+◌, ◌-◌, ◌<◌, ◌≤◌, List, [], ◌∷◌, ◌++◌, length, get_or, take, drop, set, Ok, Err, Result, sym, refl, ap, ◌∙◌, append_assoc, append-nil, arith, length-set, Bor}
-use native.Mathlib.Nat.{sub-zero}
 use Rattle.std.proofs.lemmas.List.{drop_more, drop_all, take_more_set, take_all, length-map, get_or-map}
 use Rattle.journal.specs.declared.steps.Misread.{Misread}
-use Rattle.journal.specs.declared.steps.Misread.TheVariants.{Missing, Extra}
+use Rattle.journal.specs.declared.steps.Misread.TheVariants.{Missing}
 use Rattle.journal.specs.Numbers.{decimal}
 use Rattle.journal.specs.Words.{contents}
 use Rattle.journal.specs.Steps.{and_then, placed, numbers}
@@ -11,10 +10,6 @@ use Rattle.journal.specs.Steps.{and_then, placed, numbers}
 -- the numbers that are found, before those of the words to come
 abbrev pub joined : List ℕ → Result (List ℕ) Misread → Result (List ℕ) Misread
 joined xs r = and_then r (λ ys. Ok (xs ++ ys))
-
-joined_nil : (r : Result (List ℕ) Misread) → joined [] r ≡ r
-joined_nil (Ok ys) = refl
-joined_nil (Err e) = refl
 
 joined_more : (xs : List ℕ) (x : ℕ) (r : Result (List ℕ) Misread) → joined xs (and_then r (λ ys. Ok (x ∷ ys))) ≡ joined (xs ++ x ∷ []) r
 joined_more xs x (Ok ys) = ap Ok (sym (append_assoc xs (x ∷ []) ys))
@@ -24,9 +19,6 @@ joined_more xs x (Err e) = refl
 pub record Sofar (ws : List (List ℕ)) (n : ℕ) (out : List ℕ) (i : ℕ) : Type 0 where
   pub long : length out ≡ n
   pub whole : joined (take i out) (numbers (i + 2) (n - i) (drop i ws)) ≡ numbers 2 n ws
-
-pub start : (ws : List (List ℕ)) (n : ℕ) (out : List ℕ) → length out ≡ n → Sofar ws n out 0
-start ws n out e = record { long = e; whole = ap (λ k. joined [] (numbers 2 k ws)) (sub-zero n) ∙ joined_nil _ }
 
 module _ (ss : List (Bor (List ℕ))) (n : ℕ) (out : List ℕ) (i : ℕ) (s : Sofar (contents ss) n out i) where
   many : length (contents ss) ≡ length ss
@@ -66,13 +58,6 @@ module _ (ss : List (Bor (List ℕ))) (n : ℕ) (out : List ℕ) (i : ℕ) (s : 
         }
 
   module _ (h : n ≤ i) (u : i ≤ n) where
-    pub extra : n < length ss → Err (Extra (n + 2)) ≡ numbers 2 n (contents ss)
-    extra g =
-        let k : n - i ≡ 0 = omega arith in
-        let e : n ≡ i = omega arith in
-        let some : i < length (contents ss) = omega (arith, many) in
-        ap (λ m. Err (Extra (m + 2))) e ∙ told (Err (Extra (i + 2))) (rw (k, drop_more (contents ss) i [] some))
-
     pub all : length ss ≤ n → Ok out ≡ numbers 2 n (contents ss)
     all g =
         let k : n - i ≡ 0 = omega arith in
