@@ -57,6 +57,7 @@ impl WriteFault {
     pub fn number(&self) -> u64
         ensures { result ≡ (write_told self.now).number }
     {
+        // A method and no `From`, as for the faults that have values: all are asked in one way.
         *self as u64
     }
 }

@@ -56,6 +56,7 @@ impl Coded for HeadFields {
 
     ghost made = { head_of };
 
+    // By number, as the schema has codes; 0 for a code that has no field here, which is what the format says of it.
     fn value(&self, code: u8) -> u64 {
         match code {
             1 => self.facility,

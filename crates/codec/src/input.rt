@@ -6,6 +6,7 @@ ghost use Rattle.codec.specs.Reading.{part as part_of};
 use crate::faults::ReadFault;
 
 /// Bytes that are read from the front, one part after another.
+// Bytes and a place, and not a slice that shrinks: `Cut` tells how long all bytes are.
 #[derive(Drop)]
 pub(crate) struct Input<'a> {
     pub bytes: &'a [u8],

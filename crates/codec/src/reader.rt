@@ -80,9 +80,7 @@ fn record(bytes: &[u8]) -> Result<(usize, u16, Signed), ReadFault>
     ensures { Says (λ x. (x.0, x.1, filed x.2)) result (reading bytes.now) }
 {
     let version = opening(bytes)?;
-    let Some(row) = row_of(version) else {
-        return Err(ReadFault::Version);
-    };
+    let row = row_of(version).ok_or(ReadFault::Version)?;
     let mut input = Input {
         bytes,
         at: COUNT_AT,
@@ -94,6 +92,7 @@ fn record(bytes: &[u8]) -> Result<(usize, u16, Signed), ReadFault>
 
 /// Reads the record at the front of `bytes` into the caller's place, and answers the bytes used and the version.
 /// Bytes after the record are left alone, and a refusal leaves the place as it was.
+// The caller's place and a pair of numbers: the project asks for this form.
 pub fn read(bytes: &[u8], into: &mut Signed) -> Result<(usize, u16), ReadFault>
     ensures says { Placed result (reading bytes.now) into.old into.new }
     ensures within { IfOk result (λ x. (0 < x.0) × (x.0 ≤ length bytes.now)) }

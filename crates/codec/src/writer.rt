@@ -17,6 +17,7 @@ use filing::signed::Signed;
 const FRONT: usize = 6;
 
 /// A buffer that is filled from the front, one part after another.
+// No `Vec`: the writer takes no memory, and fills its caller's buffer in place.
 #[derive(Drop)]
 struct Output<'a> {
     buffer: &'a mut [u8],

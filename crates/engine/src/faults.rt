@@ -8,7 +8,7 @@ use register::refusals::Refusal;
 use std::fmt;
 
 /// The fault of the layer that refused.
-#[derive(Clone, Copy)]
+#[derive(Clone, Copy, Debug, PartialEq, Eq)]
 pub enum EngineFault {
     Read(ReadFault),
     Register(Refusal),

@@ -45,6 +45,7 @@ pub fn run(
 {
     let mut answers = Vec::with_capacity(heap, steps.len())?;
     let mut engine = Engine::new(heap)?;
+    // No chain, whose closure would change the engine: a chain says nothing of that.
     for step in steps {
         answers.push_reserved(engine.perform(*step));
     }

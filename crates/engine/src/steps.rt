@@ -11,7 +11,7 @@ pub enum Step<'a> {
 }
 
 /// A record that was filed.
-#[derive(Clone, Copy)]
+#[derive(Clone, Copy, Debug, PartialEq, Eq)]
 pub struct Recorded {
     /// How many bytes it took.
     pub used: usize,
@@ -20,7 +20,7 @@ pub struct Recorded {
 }
 
 /// The answer to an accepted step.
-#[derive(Clone, Copy)]
+#[derive(Clone, Copy, Debug, PartialEq, Eq)]
 pub enum StepAnswer {
     Call(Answer),
     Recorded(Recorded),

@@ -16,6 +16,7 @@ impl EnrolmentFault {
     pub fn number(&self) -> u64
         ensures { result ≡ (enrolment_told self.now).number }
     {
+        // A method and no `From`, as for the faults that have values: all are asked in one way.
         *self as u64
     }
 }

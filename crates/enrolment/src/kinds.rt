@@ -22,6 +22,8 @@ pub enum Choice {
     BeforeBase = 3,
 }
 
+// One impl a type, since the check refuses a derive of the repository's own.
+
 /// The number that stands for a kind.
 impl From<EnrolmentKind> for u64 {
     ghost from_gives = { λ kind n. n ≡ enrolment_kind_number kind };

@@ -49,7 +49,7 @@ impl Draft {
     {
         let filing = self.filing.with_line(fields)?;
         let place = filing.count();
-        *self = Draft { filing };
+        self.filing = filing;
         Ok(place)
     }
 

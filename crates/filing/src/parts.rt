@@ -104,6 +104,7 @@ impl TryFrom<HeadFields> for Head {
 
 impl Line {
     /// The line with these fields after its kind, if each is in its range; `place` is where it would stand.
+    // No `TryFrom`: a refusal names the place, which the fields don't have.
     pub(crate) fn checked(
         kind: LineKind,
         fields: LineFields,

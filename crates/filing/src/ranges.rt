@@ -113,6 +113,8 @@ fn place_outside<const N: usize>(values: &[u64; N], ranges: &[Range; N]) -> Opti
         .position(|(value, range)| range.misses(*value))
 }
 
+// Values and ranges are two arrays, since the definitions go through two lists.
+
 /// The code of the first value outside its range, where the first value has the code `from`.
 pub(crate) fn first_outside<const N: usize>(
     from: usize,

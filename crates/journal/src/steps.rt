@@ -72,7 +72,7 @@ fn numbers<const N: usize>(words: &[&[u8]]) -> Result<[u64; N], Misread>
     }
 }
 
-// `head` and `line` differ in the names of their fields alone, and either way each name is written once.
+// `head` and `line` differ in the names of their fields alone: a `From<[u64; 7]>` would write the same names elsewhere.
 fn head(words: &[&[u8]]) -> Result<Step, Misread>
     ensures { result ≡ headed (contents words.now) }
 {

@@ -24,7 +24,7 @@ pub fn limit_of(calculation: Calculation, at: FacilityYear<'_>, filing: &Filing)
 {
     let lines = filing.lines();
     let mut sum = 0;
-    // A `for` with an index, asked for in this form: it stops at the first fault, whose line it counts.
+    // A `for` with an index, which the project's rules ask for: it stops at the first fault and names its line.
     for (i, line) in lines.iter().enumerate() {
         match at.contribution(calculation, line) {
             Ok(part) => sum += part.ten_millionths,

@@ -91,6 +91,7 @@ const LINE: [&str; 7] = [
 /// What the word at a place of a step's line is called; the step's own word is at 1.
 fn expected(step: &[u8], at: usize) -> &'static str {
     let place = at.saturating_sub(2);
+    // The reader of steps keeps places only: the names are the program's, in its messages and its help.
     let name = match step {
         b"head" => HEAD.get(place),
         b"line" => LINE.get(place),

@@ -52,7 +52,7 @@ impl fmt::Display for Record {
 }
 
 /// A record that is refused: where it begins, and why, and the layer that refuses it.
-#[derive(Clone, Copy)]
+#[derive(Clone, Copy, Debug, PartialEq, Eq)]
 pub struct RefusedRecord {
     pub offset: usize,
     pub fault: ReadFault,

@@ -2,7 +2,7 @@
 use crate::table::Assessment;
 
 /// The answer to an accepted call.
-#[derive(Clone, Copy)]
+#[derive(Clone, Copy, Debug, PartialEq, Eq)]
 pub enum Answer {
     Enrolled,
     /// The number of an act or take-back.

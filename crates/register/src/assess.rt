@@ -53,7 +53,7 @@ pub(crate) fn reassess<M: LimitMethod>(
     ensures before { (k : ℕ) → k < from → slice_index_or assessed.new k none ≡ slice_index_or assessed.old k none }
     ensures after { (k : ℕ) → from ≤ k → k < 20 → option_map assessment_fields (slice_index_or assessed.new k none) ≡ anew (M.LimitMethod.meaning method.now) (enrolled enrolment.now) (filings places.now) k number }
 {
-    // Tried with `iter_mut().enumerate().skip(from)`: past a `skip` the check knows no element that was not written.
+    // By index: of `iter_mut().enumerate().skip(from)` the check knows no element that is passed over.
     for i in from..PLACES {
         let at = FacilityYear {
             enrolment,

@@ -8,6 +8,7 @@ pub enum Call {
     Enrol(EnrolmentFields),
     File(Signed),
     Amend(Signed),
+    // Bare numbers here and below: a caller may ask for a facility or a year that there is not.
     Withdraw { facility: u64, year: u64 },
     TakeBack,
     Close,

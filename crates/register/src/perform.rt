@@ -41,6 +41,7 @@ pub fn run<M: LimitMethod + Drop>(
 {
     let mut answers = Vec::with_capacity(heap, calls.len())?;
     let mut register = Register::new(heap, method)?;
+    // No chain: its closure would change the register, and a chain says nothing of what its closure changes.
     for call in calls {
         answers.push_reserved(register.perform(*call));
     }

@@ -42,6 +42,7 @@ impl Refusal {
     pub fn number(&self) -> u64
         ensures { result ≡ (refusal_told self.now).number }
     {
+        // A method and no `From`, as for the faults that have values: all are asked in one way.
         *self as u64
     }
 }

@@ -6,7 +6,7 @@ use limit::outcome::Outcome;
 use quantity::units::Tonnes;
 
 /// What the filing of a year came to.
-#[derive(Clone, Copy)]
+#[derive(Clone, Copy, Debug, PartialEq, Eq)]
 pub struct Assessment {
     pub emissions: Tonnes,
     pub outcome: Outcome,
@@ -29,6 +29,7 @@ pub(crate) struct Plant {
 #[derive(Drop)]
 pub struct Register<M> {
     pub(crate) method: M,
+    // An array: there are four facilities, and a register takes no memory that can run out.
     pub(crate) plants: [Plant; 4],
     pub(crate) log: UndoLog,
     pub(crate) used: u64,

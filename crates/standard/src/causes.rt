@@ -22,6 +22,7 @@ impl Cause {
     pub fn number(&self) -> u64
         ensures { result ≡ cause_number self.now }
     {
+        // A method and no `From`, as for the faults that have values: all are asked in one way.
         *self as u64
     }
 }

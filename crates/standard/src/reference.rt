@@ -24,8 +24,7 @@ impl Activity<'_> {
     {
         match (self.of_year(FIRST_FIXED), self.of_year(SECOND_FIXED)) {
             (Some(first), Some(second)) => Some(ReferenceYears::Two(first, second)),
-            (Some(only), None) => Some(ReferenceYears::One(only)),
-            (None, Some(only)) => Some(ReferenceYears::One(only)),
+            (Some(only), None) | (None, Some(only)) => Some(ReferenceYears::One(only)),
             (None, None) => None,
         }
     }
