@@ -21,11 +21,8 @@ fn unit_of(q: Quotient) -> u64
     ensures { result ≡ unit_of q.num q.den }
 {
     let whole = q.num / q.den;
-    let mut unit = 1;
-    while whole / unit >= 1000 {
-        unit *= 10;
-    }
-    unit
+    let tens = whole.checked_ilog10().unwrap_or(0);
+    10u64.pow(tens.saturating_sub(2))
 }
 
 /// The tie rule of three figures: the whole number nearest to the quotient, a half up.
