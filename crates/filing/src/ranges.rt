@@ -18,7 +18,7 @@ impl Range {
     fn misses(&self, value: u64) -> bool
         ensures { result ≡ outside value self.now }
     {
-        value < self.least || self.most < value
+        !(self.least..=self.most).contains(&value)
     }
 }
 
