@@ -53,10 +53,10 @@ impl Filing {
         if total_kg(&head) < attributed_kg(self.lines()) {
             return Err(FilingFault::Attributed);
         }
-        let lines = self.lines;
+        // Field by field, not `..*self`: tried, and the check takes no `..` where the struct has ghost fields.
         Ok(Filing {
             head,
-            lines,
+            lines: self.lines,
             count: self.count,
         })
     }
@@ -90,6 +90,7 @@ impl Filing {
         let line = self.checked_line(fields)?;
         let mut lines = self.lines;
         lines[self.count] = line;
+        // Field by field, as for a head: no `..` where the struct has ghost fields.
         Ok(Filing {
             head: self.head,
             lines,
