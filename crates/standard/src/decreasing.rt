@@ -8,9 +8,6 @@ pub(crate) const STEADY: u64 = 370;
 /// The first year of the table.
 const FIRST: u64 = 2021;
 
-/// The first year after the table.
-const AFTER: u64 = 2030;
-
 /// The decreasing standard, a year each.
 const DECREASING: [u64; 9] = [370, 329, 288, 247, 206, 164, 123, 82, 41];
 
@@ -19,8 +16,6 @@ pub fn decreasing_standard(year: u64) -> u64
     ensures value { result ≡ decreasing year }
     ensures bound { result ≤ 370 }
 {
-    if year >= AFTER {
-        return 0;
-    }
-    DECREASING[year.saturating_sub(FIRST) as usize]
+    let i = year.saturating_sub(FIRST) as usize;
+    DECREASING.get(i).copied().unwrap_or(0)
 }
