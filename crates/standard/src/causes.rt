@@ -32,11 +32,11 @@ impl fmt::Display for Cause {
     ghost output = { λ c. Some (cause_word c) };
 
     fn fmt<W: fmt::Write>(&self, f: &mut fmt::Formatter<W>) -> fmt::Result {
-        match self {
-            Cause::Method => write!(f, "method"),
-            Cause::Reference => write!(f, "reference"),
-            Cause::Large => write!(f, "large"),
-            Cause::Capacity => write!(f, "capacity"),
-        }
+        f.write_str(match self {
+            Cause::Method => "method",
+            Cause::Reference => "reference",
+            Cause::Large => "large",
+            Cause::Capacity => "capacity",
+        })
     }
 }
