@@ -43,10 +43,7 @@ fn added_by_line(line: &Line, unit: u16, year: u64) -> Capacity
     ensures bound { result.triggering + result.other ≤ 1000 }
 {
     if !of_unit(line, unit) {
-        return Capacity {
-            triggering: 0,
-            other: 0,
-        };
+        return Capacity::NONE;
     }
     if triggers(line, year) {
         Capacity {
@@ -83,13 +80,9 @@ fn added_by_place(place: &Option<Signed>, unit: u16, year: u64) -> Capacity
     ensures adds { Adds unit (map (dated year) (lines_at (filing_at place.now))) result.triggering result.other }
     ensures bound { result.triggering + result.other ≤ 6000 }
 {
-    match place {
-        Some(signed) => added_by_filing(signed.filing(), unit, year),
-        None => Capacity {
-            triggering: 0,
-            other: 0,
-        },
-    }
+    place.as_ref().map_or(Capacity::NONE, |signed| {
+        added_by_filing(signed.filing(), unit, year)
+    })
 }
 
 impl FacilityYear<'_> {

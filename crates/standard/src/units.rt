@@ -16,6 +16,13 @@ pub struct Capacity {
     ghost range: { triggering + other ≤ 120000 },
 }
 
+impl Capacity {
+    pub(crate) const NONE: Capacity = Capacity {
+        triggering: 0,
+        other: 0,
+    };
+}
+
 /// What a reference year has of an activity: kilograms emitted, and production in thousandths.
 #[derive(Clone, Copy)]
 pub struct ReferenceYear {
