@@ -48,7 +48,7 @@ impl Activity<'_> {
     {
         match self.at.enrolment.choice {
             Choice::Fixed => self.fixed_years(),
-            Choice::Base => Some(ReferenceYears::One(self.base()?)),
+            Choice::Base => self.base().map(ReferenceYears::One),
             Choice::BeforeBase => Some(self.years_before(self.base()?)),
         }
     }
