@@ -46,10 +46,6 @@ impl FacilityYear<'_> {
         ensures value { result ≡ base_year (enrolled self.entry.enrolment.now) (up_to self.entry.year (filings self.entry.places.now)) activity }
         ensures means { BaseOf (enrolled self.entry.enrolment.now) (up_to self.entry.year (filings self.entry.places.now)) activity result }
     {
-        let activity = Activity {
-            at: self,
-            number: activity,
-        };
-        activity.base_year()
+        self.activity(activity).base_year()
     }
 }

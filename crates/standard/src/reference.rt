@@ -59,10 +59,6 @@ impl FacilityYear<'_> {
     pub fn reference_years(self, activity: u16) -> Option<ReferenceYears>
         ensures { listed result ≡ references (enrolled self.entry.enrolment.now) (up_to self.entry.year (filings self.entry.places.now)) activity }
     {
-        let activity = Activity {
-            at: self,
-            number: activity,
-        };
-        activity.chosen_years()
+        self.activity(activity).chosen_years()
     }
 }
