@@ -20,10 +20,10 @@ impl fmt::Display for NoLimit {
     ghost output = { λ c. Some (no_limit_word c) };
 
     fn fmt<W: fmt::Write>(&self, f: &mut fmt::Formatter<W>) -> fmt::Result {
-        match self {
-            NoLimit::Vacant => write!(f, "vacant"),
-            NoLimit::Early => write!(f, "early"),
-            NoLimit::Exempt => write!(f, "exempt"),
-        }
+        f.write_str(match self {
+            NoLimit::Vacant => "vacant",
+            NoLimit::Early => "early",
+            NoLimit::Exempt => "exempt",
+        })
     }
 }
