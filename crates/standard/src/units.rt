@@ -17,6 +17,7 @@ pub struct Capacity {
 }
 
 impl Capacity {
+    /// No megawatts.
     pub(crate) const NONE: Capacity = Capacity {
         triggering: 0,
         other: 0,
