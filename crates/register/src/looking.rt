@@ -20,7 +20,7 @@ impl<M: LimitMethod> Register<M> {
     pub(crate) fn enrolment_of(&self, facility: u64) -> Result<Enrolment, Refusal>
         ensures { Sought self.now facility result }
     {
-        if facility < 1 || facility > FACILITIES {
+        if !(1..=FACILITIES).contains(&facility) {
             return Err(Refusal::Unknown);
         }
         self.plants[(facility - 1) as usize]

@@ -42,7 +42,7 @@ impl Place {
     pub(crate) fn new(facility: u64, year: u64) -> Option<Place>
         ensures { MatchOption result (between 1 4 facility ≡ true → between 2017 2036 year ≡ false) (λ p. (p.facility ≡ facility) × (p.year ≡ year)) }
     {
-        if facility < 1 || facility > FACILITIES || year < FIRST_YEAR || year > LAST_YEAR {
+        if !(1..=FACILITIES).contains(&facility) || !(FIRST_YEAR..=LAST_YEAR).contains(&year) {
             return None;
         }
         Some(Place { facility, year })
