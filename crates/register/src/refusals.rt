@@ -52,15 +52,15 @@ impl fmt::Display for Refusal {
     ghost output = { λ w. Some (refusal_word w) };
 
     fn fmt<W: fmt::Write>(&self, f: &mut fmt::Formatter<W>) -> fmt::Result {
-        match self {
-            Refusal::Unknown => write!(f, "unknown"),
-            Refusal::Enrolled => write!(f, "enrolled"),
-            Refusal::Enrolment => write!(f, "enrolment"),
-            Refusal::Stands => write!(f, "stands"),
-            Refusal::Vacant => write!(f, "vacant"),
-            Refusal::Book => write!(f, "book"),
-            Refusal::Bare => write!(f, "bare"),
-            Refusal::Spent => write!(f, "spent"),
-        }
+        f.write_str(match self {
+            Refusal::Unknown => "unknown",
+            Refusal::Enrolled => "enrolled",
+            Refusal::Enrolment => "enrolment",
+            Refusal::Stands => "stands",
+            Refusal::Vacant => "vacant",
+            Refusal::Book => "book",
+            Refusal::Bare => "bare",
+            Refusal::Spent => "spent",
+        })
     }
 }
