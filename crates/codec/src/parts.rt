@@ -22,10 +22,8 @@ pub(crate) fn opening(bytes: &[u8]) -> Result<u16, ReadFault>
         }
         return Err(ReadFault::Mark);
     };
-    let [high, low, ..] = rest else {
-        return Err(ReadFault::Cut { length });
-    };
-    Ok(u16::from_be_bytes([*high, *low]))
+    let version = rest.first_chunk().ok_or(ReadFault::Cut { length })?;
+    Ok(u16::from_be_bytes(*version))
 }
 
 /// Compares the schema with the row of the version.

@@ -40,7 +40,7 @@ impl Output<'_> {
         requires { self.old.at + (6 + length row.codes.list.now) ≤ length self.old.buffer.now }
         ensures { Put self.old self.new (opening_bytes row.version row.codes.list.now) }
     {
-        self.put(&[0x4F, 0x42, 0x46]);
+        self.put(b"OBF");
         self.put(&row.version.to_be_bytes());
         self.put(&[row.codes.list.len() as u8]);
         self.put(row.codes.list);
