@@ -22,12 +22,11 @@ impl<'a> Input<'a> {
         ensures says { Took (λ x. x.now) result (part_of self.old.at size self.old.bytes.now) self.old self.new (self.old.at + size) }
         ensures long { IfOk result (λ b. length b.now ≡ size) }
     {
-        let at = self.at;
         let length = self.bytes.len();
-        if length - at < size {
-            return Err(ReadFault::Cut { length });
-        }
-        self.at = at + size;
-        Ok(&self.bytes[at..at + size])
+        let found = self.bytes[self.at..]
+            .get(..size)
+            .ok_or(ReadFault::Cut { length })?;
+        self.at += size;
+        Ok(found)
     }
 }
