@@ -68,10 +68,10 @@ impl fmt::Display for ReadFault {
 
     fn fmt<W: fmt::Write>(&self, f: &mut fmt::Formatter<W>) -> fmt::Result {
         match self {
-            ReadFault::Cut { length } => write!(f, "1 cut length {length}"),
-            ReadFault::Mark => write!(f, "2 mark"),
-            ReadFault::Version => write!(f, "3 version"),
-            ReadFault::Schema { line } => write!(f, "4 schema line {line}"),
+            ReadFault::Cut { length } => write!(f, "{} cut length {length}", self.number()),
+            ReadFault::Mark => write!(f, "{} mark", self.number()),
+            ReadFault::Version => write!(f, "{} version", self.number()),
+            ReadFault::Schema { line } => write!(f, "{} schema line {line}", self.number()),
             ReadFault::Filing(fault) => write!(f, "{fault}"),
         }
     }
@@ -83,7 +83,7 @@ impl fmt::Display for WriteFault {
 
     fn fmt<W: fmt::Write>(&self, f: &mut fmt::Formatter<W>) -> fmt::Result {
         match self {
-            WriteFault::Short => write!(f, "10 short"),
+            WriteFault::Short => write!(f, "{} short", self.number()),
         }
     }
 }
