@@ -1,5 +1,7 @@
 -- The bytes that the decoder of hexadecimal text gives are those of the pairs of digits.
-use Rattle.std.proofs.Common.{◌≡◌, ℕ, ◌+◌, ◌*◌, ◌/◌, ◌%◌, true, ◌==◌, eqb, List, [], ◌∷◌, length, take, drop, Some, None, Option, Ok, Err, Result, MatchResult, sym, refl, ap, ◌∙◌, arith}
+use Rattle.std.proofs.Common.{◌≡◌, ℕ, ◌+◌, ◌*◌, ◌/◌, ◌%◌, Bool, true, false, ◌==◌, eqb, List, [], ◌∷◌, length, take, drop, Some, None, Option, Ok, Err, Result, MatchResult, is_ok, sym, refl, ap, ◌∙◌, arith}
+use Rattle.std.specs.Bool.{then_some}
+use Rattle.std.specs.Option.{option_map}
 use Rattle.std.proofs.lemmas.Bool.{cond_both, cond-true, eqb-true, eqb-false}
 use Rattle.hex.specs.declared.error.FromHexError.{FromHexError}
 use lib.Pointwise.{pointwise}
@@ -68,10 +70,10 @@ pub whole : (w ds : List ℕ) (n : ℕ) → pointwise eqb (take 2 w) (48 ∷ 120
 whole w ds n t e h = sized_are ds n h ∙ ap hex_bytes e ∙ sym (cond-true (is_hex w) (hex_bytes (drop 2 w)) None (prefixed w t))
 
 -- what the answer of the decoder says of what it decoded
-pub taken : (d : Result (List ℕ) FromHexError) (r : Result (Unit {0}) FromHexError) (out : List ℕ) → MatchResult d (λ bytes. (r ≡ Ok tt) × (out ≡ bytes)) (λ e. r ≡ Err e) → r ≡ Ok tt → decoded d ≡ Some out
-taken (Ok bytes) r out h e = ap Some (sym h.1)
-taken (Err x) r out h e = cc
+pub answered : (d : Result (List ℕ) FromHexError) (r : Result (Unit {0}) FromHexError) (out : List ℕ) → MatchResult d (λ bytes. (r ≡ Ok tt) × (out ≡ bytes)) (λ e. r ≡ Err e) → decoded d ≡ then_some (is_ok r) out
+answered (Ok bytes) r out h = rw (h.0) (ap Some (sym h.1))
+answered (Err e) r out h = rw h refl
 
-pub refused : (d : Result (List ℕ) FromHexError) (r : Result (Unit {0}) FromHexError) (out : List ℕ) (x : FromHexError) → MatchResult d (λ bytes. (r ≡ Ok tt) × (out ≡ bytes)) (λ e. r ≡ Err e) → r ≡ Err x → decoded d ≡ None
-refused (Ok bytes) r out x h e = let t : r ≡ Ok tt = h.0 in cc
-refused (Err y) r out x h e = refl
+pub mapped : {X Y : Type 0} (f : X → Y) (b : Bool) (x : X) → option_map f (then_some b x) ≡ then_some b (f x)
+mapped f true x = refl
+mapped f false x = refl

@@ -33,8 +33,9 @@ pub fn unhexed(heap: Global, word: &[u8]) -> Result<Option<Vec<u8>>, AllocError>
         return Ok(None);
     };
     let mut bytes = vec![in heap; 0; digits.len() / 2]?;
-    match hex::decode_to_slice(digits, &mut bytes) {
-        Ok(()) => Ok(Some(bytes)),
-        Err(_) => Ok(None),
-    }
+    Ok(
+        hex::decode_to_slice(digits, &mut bytes)
+            .is_ok()
+            .then_some(bytes),
+    )
 }
