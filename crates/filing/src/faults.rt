@@ -41,11 +41,13 @@ impl fmt::Display for FilingFault {
 
     fn fmt<W: fmt::Write>(&self, f: &mut fmt::Formatter<W>) -> fmt::Result {
         match self {
-            FilingFault::Range { code, line } => write!(f, "5 range code {code} line {line}"),
-            FilingFault::Kind { line } => write!(f, "6 kind line {line}"),
-            FilingFault::Lines => write!(f, "7 lines"),
-            FilingFault::Twice { line } => write!(f, "8 twice line {line}"),
-            FilingFault::Attributed => write!(f, "9 attributed"),
+            FilingFault::Range { code, line } => {
+                write!(f, "{} range code {code} line {line}", self.number())
+            }
+            FilingFault::Kind { line } => write!(f, "{} kind line {line}", self.number()),
+            FilingFault::Lines => write!(f, "{} lines", self.number()),
+            FilingFault::Twice { line } => write!(f, "{} twice line {line}", self.number()),
+            FilingFault::Attributed => write!(f, "{} attributed", self.number()),
         }
     }
 }
