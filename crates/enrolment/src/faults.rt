@@ -27,7 +27,7 @@ impl fmt::Display for EnrolmentFault {
 
     fn fmt<W: fmt::Write>(&self, f: &mut fmt::Formatter<W>) -> fmt::Result {
         match self {
-            EnrolmentFault::Outside => write!(f, "13 enrolment"),
+            EnrolmentFault::Outside => write!(f, "{} enrolment", self.number()),
         }
     }
 }
