@@ -14,6 +14,17 @@ const HEAD: HeadFields = HeadFields {
     captured: 0,
 };
 
+const LINE: LineFields = LineFields {
+    kind: 1,
+    number: 1,
+    production: 1,
+    standard: 0,
+    attributed: 0,
+    added: 0,
+    ratio: 0,
+};
+
+// By a write and not by `..`: the code chooses the field, and a literal for each would be three lines where one is.
 fn head_with(code: usize, value: u64) -> HeadFields {
     let mut head = HEAD;
     match code {
@@ -28,16 +39,9 @@ fn head_with(code: usize, value: u64) -> HeadFields {
     head
 }
 
+// By a write, as for a head.
 fn line_with(kind: u64, code: usize, value: u64) -> LineFields {
-    let mut line = LineFields {
-        kind,
-        number: 1,
-        production: 1,
-        standard: 0,
-        attributed: 0,
-        added: 0,
-        ratio: 0,
-    };
+    let mut line = LineFields { kind, ..LINE };
     match code {
         22 => line.number = value,
         23 => line.production = value,
@@ -56,11 +60,10 @@ fn head_refusal(fields: HeadFields) -> Option<FilingFault> {
 /// A draft whose total is the largest that there is.
 fn largest() -> Result<Draft, FilingFault> {
     let mut draft = Draft::blank();
-    let co2 = 100_000_000_000;
     draft.set_head(HeadFields {
         facility: 4,
         year: 2036,
-        co2,
+        co2: 100_000_000_000,
         ch4: 1_000_000_000,
         n2o: 100_000_000,
         sf6: 1_000_000,
@@ -175,23 +178,29 @@ fn order_of_checks(rt: HostRuntime) -> Result<(), Fail> {
     let mut draft = largest()?;
     let first = line_with(1, 25, 177_600_000_000);
     assert_eq!(rt; draft.add_line(first), Ok(1));
-    let mut other = line_with(1, 24, 10_000_001);
-    other.kind = 9;
+    let other = LineFields {
+        kind: 9,
+        ..line_with(1, 24, 10_000_001)
+    };
     assert_eq!(rt; draft.add_line(other), Err(FilingFault::Kind { line: 2 }));
-    let mut second = line_with(1, 23, 0);
-    second.attributed = 1;
-    second.standard = 10_000_001;
+    let second = LineFields {
+        attributed: 1,
+        ..LINE
+    };
+    let outside = LineFields {
+        production: 0,
+        standard: 10_000_001,
+        ..second
+    };
     assert_eq!(rt;
-        draft.add_line(second),
+        draft.add_line(outside),
         Err(FilingFault::Range { code: 23, line: 2 })
     );
-    second.production = 1;
-    second.standard = 0;
     assert_eq!(rt; draft.add_line(second), Err(FilingFault::Twice { line: 2 }));
-    second.kind = 2;
-    assert_eq!(rt; draft.add_line(second), Err(FilingFault::Attributed));
-    second.attributed = 0;
-    assert_eq!(rt; draft.add_line(second), Ok(2));
+    let above = LineFields { kind: 2, ..second };
+    assert_eq!(rt; draft.add_line(above), Err(FilingFault::Attributed));
+    let within = LineFields { kind: 2, ..LINE };
+    assert_eq!(rt; draft.add_line(within), Ok(2));
     let range = head_with(6, 1_000_001);
     assert_eq!(rt;
         draft.set_head(range),
