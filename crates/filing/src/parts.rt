@@ -6,7 +6,7 @@ ghost use Rattle.filing.specs.Parts.{head_fields, line_fields, HeadMade, LineMad
 use crate::faults::FilingFault;
 use crate::fields::{HeadFields, LineFields};
 use crate::kinds::LineKind;
-use crate::ranges::{first_outside, head_ranges, line_ranges};
+use crate::ranges::{check_ranges, head_ranges, line_ranges};
 use quantity::units::{Kilograms, Megawatts, Production, Standard};
 
 /// Who files for which year, and what was emitted and captured.
@@ -85,9 +85,7 @@ impl TryFrom<HeadFields> for Head {
             fields.captured,
         ];
         let ranges = head_ranges(&fields);
-        if let Some(code) = first_outside(1, &values, &ranges) {
-            return Err(FilingFault::Range { code, line: 0 });
-        }
+        check_ranges(1, &values, &ranges, 0)?;
         Ok(Head {
             facility: fields.facility as u8,
             year: fields.year as u16,
@@ -122,9 +120,7 @@ impl Line {
             fields.ratio,
         ];
         let ranges = line_ranges(kind);
-        if let Some(code) = first_outside(22, &values, &ranges) {
-            return Err(FilingFault::Range { code, line: place });
-        }
+        check_ranges(22, &values, &ranges, place)?;
         Ok(Line {
             kind,
             number: fields.number as u16,

@@ -1,8 +1,11 @@
 //! The ranges of the fields, in the order of their codes.
-ghost use Rattle.std.specs.Prelude.{◌≡◌, ◌+◌, ◌<◌, ◌≤◌, IfSome};
+ghost use Rattle.std.specs.Prelude.{◌≡◌, ◌+◌, ◌<◌, ◌≤◌, IfSome, IfOk, IfErr, Some, None};
 ghost use Rattle.std.specs.List.{zip, position};
+ghost use Rattle.filing.specs.Checks.{out_of_range};
 ghost use Rattle.filing.specs.Ranges.{head_ranges, line_ranges, outside, first_outside};
+ghost use Rattle.filing.specs.Told.{told};
 
+use crate::faults::FilingFault;
 use crate::fields::HeadFields;
 use crate::kinds::LineKind;
 
@@ -115,14 +118,22 @@ fn place_outside<const N: usize>(values: &[u64; N], ranges: &[Range; N]) -> Opti
 
 // Values and ranges are two arrays, since the definitions go through two lists.
 
-/// The code of the first value outside its range, where the first value has the code `from`.
-pub(crate) fn first_outside<const N: usize>(
+/// Refuses the first value outside its range by its code, where the first value has the code `from`, and the line.
+pub(crate) fn check_ranges<const N: usize>(
     from: usize,
     values: &[u64; N],
     ranges: &[Range; N],
-) -> Option<usize>
+    line: usize,
+) -> Result<(), FilingFault>
     requires { from + N ≤ 100 }
-    ensures { result ≡ first_outside from values.now ranges.now }
+    ensures passes { IfOk result (λ u. first_outside from values.now ranges.now ≡ None) }
+    ensures refuses { IfErr result (λ e. out_of_range (first_outside from values.now ranges.now) line ≡ Some (told e)) }
 {
-    place_outside(values, ranges).map(|i| from + i)
+    match place_outside(values, ranges) {
+        Some(i) => Err(FilingFault::Range {
+            code: from + i,
+            line,
+        }),
+        None => Ok(()),
+    }
 }
