@@ -41,6 +41,15 @@ const MILL: EnrolmentFields = EnrolmentFields {
     factor: 100,
 };
 
+/// Of no kind that there is.
+const ODD: EnrolmentFields = EnrolmentFields { kind: 3, ..STATION };
+
+/// Beyond the last facility.
+const FAR: EnrolmentFields = EnrolmentFields {
+    facility: 5,
+    ..STATION
+};
+
 fn line(kind: u64, number: u64, production: u64) -> LineFields {
     LineFields {
         kind,
@@ -54,10 +63,11 @@ fn line(kind: u64, number: u64, production: u64) -> LineFields {
 }
 
 fn unit(number: u64, production: u64, added: u64, ratio: u64) -> LineFields {
-    let mut unit = line(3, number, production);
-    unit.added = added;
-    unit.ratio = ratio;
-    unit
+    LineFields {
+        added,
+        ratio,
+        ..line(3, number, production)
+    }
 }
 
 fn signed(facility: u64, year: u64, co2: u64, lines: &[LineFields]) -> Result<Signed, FilingFault> {
@@ -71,8 +81,8 @@ fn signed(facility: u64, year: u64, co2: u64, lines: &[LineFields]) -> Result<Si
         sf6: 0,
         captured: 0,
     })?;
-    for line in lines {
-        let _ = draft.add_line(*line)?;
+    for &line in lines {
+        let _ = draft.add_line(line)?;
     }
     Ok(draft.sign())
 }
@@ -94,7 +104,7 @@ fn withdraw(facility: u64, year: u64) -> Call {
     Call::Withdraw { facility, year }
 }
 
-/// What a call is answered: causes and refusals by their numbers, the number of an assessment last.
+/// What an accepted call is answered: causes by their numbers, the number of an assessment last.
 #[derive(Clone, Copy, Debug, PartialEq)]
 enum Told {
     Enrolled,
@@ -103,39 +113,43 @@ enum Told {
     Limit(u64, u64),
     NoLimit(u64, u64),
     Fault(u64, usize, u64),
-    Refused(u64),
 }
 
-fn tell(answer: Result<Answer, Refusal>) -> Told {
-    match answer {
-        Ok(Answer::Enrolled) => Told::Enrolled,
-        Ok(Answer::Number(number)) => Told::Number(number),
-        Ok(Answer::Closed) => Told::Closed,
-        Ok(Answer::Assessed(assessment)) => match assessment.outcome {
-            Outcome::Limit(limit) => Told::Limit(limit.tonnes, assessment.number),
-            Outcome::NoLimit(cause) => Told::NoLimit(cause.number(), assessment.number),
-            Outcome::Fault { cause, line } => Told::Fault(cause.number(), line, assessment.number),
-        },
-        Err(refusal) => Told::Refused(refusal.number()),
+use Told::{Closed, Enrolled, Fault, Limit, NoLimit, Number};
+
+impl From<Answer> for Told {
+    fn from(answer: Answer) -> Told {
+        match answer {
+            Answer::Enrolled => Enrolled,
+            Answer::Number(number) => Number(number),
+            Answer::Closed => Closed,
+            Answer::Assessed(assessment) => match assessment.outcome {
+                Outcome::Limit(limit) => Limit(limit.tonnes, assessment.number),
+                Outcome::NoLimit(cause) => NoLimit(cause.number(), assessment.number),
+                Outcome::Fault { cause, line } => Fault(cause.number(), line, assessment.number),
+            },
+        }
     }
+}
+
+/// What a call is answered, a refusal by its number.
+type Seen = Result<Told, u64>;
+
+fn tell(answer: Result<Answer, Refusal>) -> Seen {
+    answer.map(Told::from).map_err(|refusal| refusal.number())
 }
 
 /// A new register with this history, in which each call is answered as the table says.
 fn history(
     rt: &impl Abort,
     heap: Global,
-    table: &[(Call, Told)],
+    table: &[(Call, Seen)],
 ) -> Result<Register<Joined<Industrial, Station>>, Fail> {
-    let mut calls = Vec::new(heap);
-    for row in table {
-        let (call, _) = *row;
-        calls.push(call)?;
-    }
+    let calls: Vec<Call> = table.iter().map(|(call, _)| *call).collect(heap)?;
     let (register, answers) = run(heap, METHOD, &calls)?;
     assert_eq!(rt; answers.len(), table.len());
-    for (i, (answer, row)) in answers.iter().zip(table).enumerate() {
-        let (_, expected) = *row;
-        assert_eq!(rt; tell(*answer), expected, "row {i}");
+    for (i, (&answer, &(_, expected))) in answers.iter().zip(table).enumerate() {
+        assert_eq!(rt; tell(answer), expected, "row {i}");
     }
     Ok(register)
 }
@@ -144,10 +158,9 @@ fn history(
 fn then(
     rt: &impl Abort,
     register: &mut Register<Joined<Industrial, Station>>,
-    table: &[(Call, Told)],
+    table: &[(Call, Seen)],
 ) {
-    for (i, row) in table.iter().enumerate() {
-        let (call, expected) = *row;
+    for (i, &(call, expected)) in table.iter().enumerate() {
         assert_eq!(rt; tell(register.perform(call)), expected, "row {i}");
     }
 }
@@ -156,7 +169,7 @@ fn then(
 fn view(
     heap: Global,
     register: &mut Register<Joined<Industrial, Station>>,
-) -> Result<Vec<Told>, Fail> {
+) -> Result<Vec<Seen>, Fail> {
     let mut seen = Vec::new(heap);
     for facility in 1..5 {
         for year in 2017..2037 {
@@ -174,17 +187,20 @@ fn refuses(
     table: &[(Call, u64)],
 ) -> Result<(), Fail> {
     let before = view(heap, register)?;
-    for (i, row) in table.iter().enumerate() {
-        let (call, number) = *row;
-        assert_eq!(rt;
-            tell(register.perform(call)),
-            Told::Refused(number),
-            "row {i}"
-        );
+    for (i, &(call, number)) in table.iter().enumerate() {
+        assert_eq!(rt; tell(register.perform(call)), Err(number), "row {i}");
         let after = view(heap, register)?;
         assert!(rt; after.as_slice() == before.as_slice(), "row {i}");
     }
     Ok(())
+}
+
+/// The station is enrolled and files.
+fn opening(filing: Signed) -> [(Call, Seen); 2] {
+    [
+        (Call::Enrol(STATION), Ok(Enrolled)),
+        (Call::File(filing), Ok(Number(1))),
+    ]
 }
 
 /// The same call many times.
@@ -197,30 +213,30 @@ fn repeat(register: &mut Register<Joined<Industrial, Station>>, call: Call, time
 #[test]
 fn history_of_the_station(rt: HostRuntime) -> Result<(), Fail> {
     let table = [
-        (Call::Enrol(STATION), Told::Enrolled),
-        (Call::File(station_year(2018, 0, 100, 0)?), Told::Number(1)),
+        (Call::Enrol(STATION), Ok(Enrolled)),
+        (Call::File(station_year(2018, 0, 100, 0)?), Ok(Number(1))),
         (
             Call::File(station_year(2022, 300_000, 50, 899)?),
-            Told::Number(2),
+            Ok(Number(2)),
         ),
         (
             Call::File(station_year(2023, 300_000, 0, 0)?),
-            Told::Number(3),
+            Ok(Number(3)),
         ),
-        (at(1, 2018), Told::NoLimit(41, 1)),
-        (at(1, 2022), Told::Limit(106_900, 2)),
-        (at(1, 2023), Told::Limit(102_800, 3)),
-        (withdraw(1, 2018), Told::Number(4)),
-        (at(1, 2018), Told::Refused(15)),
-        (at(1, 2022), Told::Limit(98_700, 4)),
-        (at(1, 2023), Told::Limit(86_400, 4)),
-        (Call::TakeBack, Told::Number(5)),
-        (at(1, 2018), Told::NoLimit(41, 5)),
-        (at(1, 2022), Told::Limit(106_900, 5)),
-        (at(1, 2023), Told::Limit(102_800, 5)),
-        (withdraw(1, 2018), Told::Number(6)),
-        (withdraw(1, 2022), Told::Number(7)),
-        (at(1, 2023), Told::Fault(34, 1, 7)),
+        (at(1, 2018), Ok(NoLimit(41, 1))),
+        (at(1, 2022), Ok(Limit(106_900, 2))),
+        (at(1, 2023), Ok(Limit(102_800, 3))),
+        (withdraw(1, 2018), Ok(Number(4))),
+        (at(1, 2018), Err(15)),
+        (at(1, 2022), Ok(Limit(98_700, 4))),
+        (at(1, 2023), Ok(Limit(86_400, 4))),
+        (Call::TakeBack, Ok(Number(5))),
+        (at(1, 2018), Ok(NoLimit(41, 5))),
+        (at(1, 2022), Ok(Limit(106_900, 5))),
+        (at(1, 2023), Ok(Limit(102_800, 5))),
+        (withdraw(1, 2018), Ok(Number(6))),
+        (withdraw(1, 2022), Ok(Number(7))),
+        (at(1, 2023), Ok(Fault(34, 1, 7))),
     ];
     let _ = history(&rt, rt.alloc(), &table)?;
     Ok(())
@@ -230,25 +246,25 @@ fn history_of_the_station(rt: HostRuntime) -> Result<(), Fail> {
 #[test]
 fn early_year_filed_late(rt: HostRuntime) -> Result<(), Fail> {
     let table = [
-        (Call::Enrol(STATION), Told::Enrolled),
+        (Call::Enrol(STATION), Ok(Enrolled)),
         (
             Call::File(station_year(2022, 300_000, 50, 899)?),
-            Told::Number(1),
+            Ok(Number(1)),
         ),
         (
             Call::File(station_year(2023, 300_000, 0, 0)?),
-            Told::Number(2),
+            Ok(Number(2)),
         ),
-        (at(1, 2022), Told::Limit(98_700, 1)),
-        (at(1, 2023), Told::Limit(86_400, 2)),
-        (Call::File(station_year(2018, 0, 100, 0)?), Told::Number(3)),
-        (at(1, 2018), Told::NoLimit(41, 3)),
-        (at(1, 2022), Told::Limit(106_900, 3)),
-        (at(1, 2023), Told::Limit(102_800, 3)),
-        (Call::TakeBack, Told::Number(4)),
-        (at(1, 2018), Told::Refused(15)),
-        (at(1, 2022), Told::Limit(98_700, 4)),
-        (at(1, 2023), Told::Limit(86_400, 4)),
+        (at(1, 2022), Ok(Limit(98_700, 1))),
+        (at(1, 2023), Ok(Limit(86_400, 2))),
+        (Call::File(station_year(2018, 0, 100, 0)?), Ok(Number(3))),
+        (at(1, 2018), Ok(NoLimit(41, 3))),
+        (at(1, 2022), Ok(Limit(106_900, 3))),
+        (at(1, 2023), Ok(Limit(102_800, 3))),
+        (Call::TakeBack, Ok(Number(4))),
+        (at(1, 2018), Err(15)),
+        (at(1, 2022), Ok(Limit(98_700, 4))),
+        (at(1, 2023), Ok(Limit(86_400, 4))),
     ];
     let _ = history(&rt, rt.alloc(), &table)?;
     Ok(())
@@ -257,43 +273,41 @@ fn early_year_filed_late(rt: HostRuntime) -> Result<(), Fail> {
 #[test]
 fn base_year_withdrawn(rt: HostRuntime) -> Result<(), Fail> {
     let table = [
-        (Call::Enrol(MILL), Told::Enrolled),
-        (Call::File(mill_year(2019, 2_000_000)?), Told::Number(1)),
-        (Call::File(mill_year(2020, 3_000_000)?), Told::Number(2)),
-        (Call::File(mill_year(2021, 4_000_000)?), Told::Number(3)),
-        (at(2, 2019), Told::Limit(2_000, 1)),
-        (at(2, 2020), Told::Limit(2_000, 2)),
-        (at(2, 2021), Told::Limit(2_000, 3)),
-        (withdraw(2, 2019), Told::Number(4)),
-        (at(2, 2019), Told::Refused(15)),
-        (at(2, 2020), Told::Limit(3_000, 4)),
-        (at(2, 2021), Told::Limit(3_000, 4)),
+        (Call::Enrol(MILL), Ok(Enrolled)),
+        (Call::File(mill_year(2019, 2_000_000)?), Ok(Number(1))),
+        (Call::File(mill_year(2020, 3_000_000)?), Ok(Number(2))),
+        (Call::File(mill_year(2021, 4_000_000)?), Ok(Number(3))),
+        (at(2, 2019), Ok(Limit(2_000, 1))),
+        (at(2, 2020), Ok(Limit(2_000, 2))),
+        (at(2, 2021), Ok(Limit(2_000, 3))),
+        (withdraw(2, 2019), Ok(Number(4))),
+        (at(2, 2019), Err(15)),
+        (at(2, 2020), Ok(Limit(3_000, 4))),
+        (at(2, 2021), Ok(Limit(3_000, 4))),
     ];
     let register = history(&rt, rt.alloc(), &table)?;
-    match register.look_up(2, 2021) {
-        Ok(assessment) => {
-            assert_eq!(rt; assessment.emissions.tonnes, 4_000);
-            assert_eq!(rt; assessment.balance, -1_000);
-            Ok(())
-        }
-        Err(_) => Err(Fail::new("refused")),
-    }
+    let assessment = register.look_up(2, 2021)?;
+    assert_eq!(rt; assessment.emissions.tonnes, 4_000);
+    assert_eq!(rt; assessment.balance, -1_000);
+    Ok(())
 }
 
 /// With each share rounded before the product, the limit would be a tonne more.
 #[test]
 fn shares_kept_exact(rt: HostRuntime) -> Result<(), Fail> {
-    let mut diesel = line(1, 1, 600_000);
-    diesel.standard = 5_500_000;
+    let diesel = LineFields {
+        standard: 5_500_000,
+        ..line(1, 1, 600_000)
+    };
     let grown = [diesel, unit(3, 200_000, 80, 800), unit(2, 500_000, 60, 750)];
     let table = [
-        (Call::Enrol(STATION), Told::Enrolled),
+        (Call::Enrol(STATION), Ok(Enrolled)),
         (
             Call::File(signed(1, 2018, 0, &[unit(2, 0, 160, 0)])?),
-            Told::Number(1),
+            Ok(Number(1)),
         ),
-        (Call::File(signed(1, 2022, 0, &grown)?), Told::Number(2)),
-        (at(1, 2022), Told::Limit(575_209, 2)),
+        (Call::File(signed(1, 2022, 0, &grown)?), Ok(Number(2))),
+        (at(1, 2022), Ok(Limit(575_209, 2))),
     ];
     let _ = history(&rt, rt.alloc(), &table)?;
     Ok(())
@@ -304,35 +318,46 @@ fn undo_log_filled(rt: HostRuntime) -> Result<(), Fail> {
     let heap = rt.alloc();
     let filing = station_year(2017, 0, 100, 0)?;
     let amend = Call::Amend(filing);
-    let mut register = history(
-        &rt,
-        heap,
-        &[
-            (Call::Enrol(STATION), Told::Enrolled),
-            (Call::File(filing), Told::Number(1)),
-        ],
-    )?;
+    let mut register = history(&rt, heap, &opening(filing))?;
     repeat(&mut register, amend, 30);
     let table = [
-        (amend, Told::Number(32)),
-        (amend, Told::Refused(16)),
-        (Call::TakeBack, Told::Number(33)),
-        (amend, Told::Number(34)),
-        (amend, Told::Refused(16)),
-        (Call::Close, Told::Closed),
-        (Call::TakeBack, Told::Refused(17)),
-        (amend, Told::Number(35)),
-        (Call::TakeBack, Told::Number(36)),
-        (Call::TakeBack, Told::Refused(17)),
+        (amend, Ok(Number(32))),
+        (amend, Err(16)),
+        (Call::TakeBack, Ok(Number(33))),
+        (amend, Ok(Number(34))),
+        (amend, Err(16)),
+        (Call::Close, Ok(Closed)),
+        (Call::TakeBack, Err(17)),
+        (amend, Ok(Number(35))),
+        (Call::TakeBack, Ok(Number(36))),
+        (Call::TakeBack, Err(17)),
     ];
     then(&rt, &mut register, &table);
     repeat(&mut register, amend, 31);
     then(
         &rt,
         &mut register,
-        &[(amend, Told::Number(68)), (amend, Told::Refused(16))],
+        &[(amend, Ok(Number(68))), (amend, Err(16))],
     );
     Ok(())
+}
+
+/// The station's filing stands, the number 999,998 is used, and the log holds thirty acts.
+fn nearly_spent(
+    rt: &impl Abort,
+    heap: Global,
+    filing: Signed,
+) -> Result<Register<Joined<Industrial, Station>>, Fail> {
+    let amend = Call::Amend(filing);
+    let mut register = history(rt, heap, &opening(filing))?;
+    for _ in 0..33_332 {
+        repeat(&mut register, amend, 30);
+        repeat(&mut register, Call::Close, 1);
+    }
+    repeat(&mut register, amend, 7);
+    repeat(&mut register, Call::Close, 1);
+    repeat(&mut register, amend, 30);
+    Ok(register)
 }
 
 /// The log is full when the last number is used.
@@ -342,25 +367,11 @@ fn last_number(rt: HostRuntime) -> Result<(), Fail> {
     let filing = station_year(2036, 0, 100, 0)?;
     let other = station_year(2035, 0, 100, 0)?;
     let amend = Call::Amend(filing);
-    let mut register = history(
-        &rt,
-        heap,
-        &[
-            (Call::Enrol(STATION), Told::Enrolled),
-            (Call::File(filing), Told::Number(1)),
-        ],
-    )?;
-    for _ in 0..33_332 {
-        repeat(&mut register, amend, 30);
-        repeat(&mut register, Call::Close, 1);
-    }
-    repeat(&mut register, amend, 7);
-    repeat(&mut register, Call::Close, 1);
-    repeat(&mut register, amend, 30);
+    let mut register = nearly_spent(&rt, heap, filing)?;
     let last = [
-        (at(1, 2036), Told::Limit(0, 999_998)),
-        (amend, Told::Number(999_999)),
-        (amend, Told::Number(1_000_000)),
+        (at(1, 2036), Ok(Limit(0, 999_998))),
+        (amend, Ok(Number(999_999))),
+        (amend, Ok(Number(1_000_000))),
     ];
     then(&rt, &mut register, &last);
     let full = [
@@ -371,7 +382,7 @@ fn last_number(rt: HostRuntime) -> Result<(), Fail> {
         (Call::TakeBack, 18),
     ];
     refuses(&rt, heap, &mut register, &full)?;
-    then(&rt, &mut register, &[(Call::Close, Told::Closed)]);
+    then(&rt, &mut register, &[(Call::Close, Ok(Closed))]);
     let spent = [
         (Call::File(filing), 14),
         (Call::File(other), 18),
@@ -382,27 +393,17 @@ fn last_number(rt: HostRuntime) -> Result<(), Fail> {
     ];
     refuses(&rt, heap, &mut register, &spent)?;
     let after = [
-        (at(1, 2036), Told::Limit(0, 1_000_000)),
-        (Call::Enrol(MILL), Told::Enrolled),
-        (Call::Close, Told::Closed),
+        (at(1, 2036), Ok(Limit(0, 1_000_000))),
+        (Call::Enrol(MILL), Ok(Enrolled)),
+        (Call::Close, Ok(Closed)),
     ];
     then(&rt, &mut register, &after);
     Ok(())
 }
 
-/// Where two checks would refuse, the first in their order does.
-#[test]
-fn refusals_in_order(rt: HostRuntime) -> Result<(), Fail> {
-    let heap = rt.alloc();
-    let filing = station_year(2022, 300_000, 50, 899)?;
-    let next = station_year(2023, 300_000, 0, 0)?;
-    let mill = mill_year(2019, 2_000_000)?;
-    let mut odd = STATION;
-    odd.kind = 3;
-    let mut far = STATION;
-    far.facility = 5;
-    let mut register = history(&rt, heap, &[])?;
-    let none = [
+/// Refused before a facility is enrolled.
+fn refused_at_first(filing: Signed) -> [(Call, u64); 11] {
+    [
         (Call::File(filing), 11),
         (Call::Amend(filing), 11),
         (withdraw(1, 2022), 11),
@@ -412,18 +413,16 @@ fn refusals_in_order(rt: HostRuntime) -> Result<(), Fail> {
         (at(1, 2016), 11),
         (at(u64::MAX, 2022), 11),
         (Call::TakeBack, 17),
-        (Call::Enrol(odd), 13),
-        (Call::Enrol(far), 13),
-    ];
-    refuses(&rt, heap, &mut register, &none)?;
-    let opening = [
-        (Call::Enrol(STATION), Told::Enrolled),
-        (Call::File(filing), Told::Number(1)),
-    ];
-    then(&rt, &mut register, &opening);
-    let standing = [
+        (Call::Enrol(ODD), 13),
+        (Call::Enrol(FAR), 13),
+    ]
+}
+
+/// Refused while the filing stands alone.
+fn refused_after_one(filing: Signed, next: Signed, mill: Signed) -> [(Call, u64); 13] {
+    [
         (Call::Enrol(STATION), 12),
-        (Call::Enrol(odd), 13),
+        (Call::Enrol(ODD), 13),
         (Call::File(filing), 14),
         (Call::File(mill), 11),
         (Call::Amend(mill), 11),
@@ -435,15 +434,12 @@ fn refusals_in_order(rt: HostRuntime) -> Result<(), Fail> {
         (at(1, 2016), 15),
         (at(1, 2037), 15),
         (at(1, u64::MAX), 15),
-    ];
-    refuses(&rt, heap, &mut register, &standing)?;
-    repeat(&mut register, Call::Amend(filing), 30);
-    then(
-        &rt,
-        &mut register,
-        &[(Call::Amend(filing), Told::Number(32))],
-    );
-    let full = [
+    ]
+}
+
+/// Refused when the log is full.
+fn refused_when_full(filing: Signed, next: Signed, mill: Signed) -> [(Call, u64); 7] {
+    [
         (Call::File(filing), 14),
         (Call::File(next), 16),
         (Call::File(mill), 11),
@@ -451,15 +447,32 @@ fn refusals_in_order(rt: HostRuntime) -> Result<(), Fail> {
         (Call::Amend(next), 15),
         (withdraw(1, 2022), 16),
         (withdraw(1, 2023), 15),
-    ];
+    ]
+}
+
+/// Where two checks would refuse, the first in their order does.
+#[test]
+fn refusals_in_order(rt: HostRuntime) -> Result<(), Fail> {
+    let heap = rt.alloc();
+    let filing = station_year(2022, 300_000, 50, 899)?;
+    let next = station_year(2023, 300_000, 0, 0)?;
+    let mill = mill_year(2019, 2_000_000)?;
+    let mut register = history(&rt, heap, &[])?;
+    refuses(&rt, heap, &mut register, &refused_at_first(filing))?;
+    then(&rt, &mut register, &opening(filing));
+    let standing = refused_after_one(filing, next, mill);
+    refuses(&rt, heap, &mut register, &standing)?;
+    repeat(&mut register, Call::Amend(filing), 30);
+    then(&rt, &mut register, &[(Call::Amend(filing), Ok(Number(32)))]);
+    let full = refused_when_full(filing, next, mill);
     refuses(&rt, heap, &mut register, &full)?;
     let closing = [
-        (Call::Enrol(MILL), Told::Enrolled),
-        (Call::TakeBack, Told::Number(33)),
-        (Call::File(mill), Told::Number(34)),
-        (at(1, 2022), Told::Limit(98_700, 33)),
-        (at(2, 2019), Told::Limit(2_000, 34)),
-        (Call::Close, Told::Closed),
+        (Call::Enrol(MILL), Ok(Enrolled)),
+        (Call::TakeBack, Ok(Number(33))),
+        (Call::File(mill), Ok(Number(34))),
+        (at(1, 2022), Ok(Limit(98_700, 33))),
+        (at(2, 2019), Ok(Limit(2_000, 34))),
+        (Call::Close, Ok(Closed)),
     ];
     then(&rt, &mut register, &closing);
     refuses(&rt, heap, &mut register, &[(Call::TakeBack, 17)])
