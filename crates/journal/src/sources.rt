@@ -33,9 +33,6 @@ pub fn unhexed(heap: Global, word: &[u8]) -> Result<Option<Vec<u8>>, AllocError>
         return Ok(None);
     };
     let mut bytes = vec![in heap; 0; digits.len() / 2]?;
-    Ok(
-        hex::decode_to_slice(digits, &mut bytes)
-            .is_ok()
-            .then_some(bytes),
-    )
+    let decoded = hex::decode_to_slice(digits, &mut bytes).is_ok();
+    Ok(decoded.then_some(bytes))
 }

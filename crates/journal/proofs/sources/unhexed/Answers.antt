@@ -12,8 +12,8 @@ returns-clause-bytes c =
     let room : length c.deref_mut.result.now ≡ length c.in-Some.digits.now / 2 = omega (arith, c.deref_mut.ensures.len, c.in_ok-bytes.ensures.len) in
     let full : length out ≡ c.in_ok-bytes.bytes.len = omega (arith, c.decode_to_slice.auto.out, c.deref_mut.ensures.len) in
     ap (option_map vec_items) c.then_some.ensures
-    ∙ mapped vec_items c.is_ok.result _
-    ∙ ap (then_some c.is_ok.result) (take_at out (drop (length out) c.in_ok-bytes.bytes.items) c.in_ok-bytes.bytes.len full)
-    ∙ ap (λ b. then_some b out) c.is_ok.ensures.value
+    ∙ mapped vec_items c.is_ok-decoded.result _
+    ∙ ap (then_some c.is_ok-decoded.result) (take_at out (drop (length out) c.in_ok-bytes.bytes.items) c.in_ok-bytes.bytes.len full)
+    ∙ ap (λ b. then_some b out) c.is_ok-decoded.ensures.value
     ∙ sym (answered _ _ out c.decode_to_slice.ensures.value)
     ∙ whole c.args.word.now c.in-Some.digits.now _ found.0 found.1 room
