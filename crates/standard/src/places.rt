@@ -1,5 +1,5 @@
 //! A facility's yearly places, 2017 to 2036, each with the signed filing that stands there or none.
-ghost use Rattle.std.specs.Prelude.{◌≡◌, ◌-◌, ◌≤◌, min, length, IfSome, option_copied, option_map};
+ghost use Rattle.std.specs.Prelude.{◌≡◌, ◌-◌, ◌≤◌, length, IfSome, option_copied, option_map};
 ghost use Rattle.filing.specs.Views.{fields_of};
 ghost use Rattle.standard.specs.Places.{at_year, filing_at, filings, standing, up_to};
 ghost use Rattle.standard.specs.Seen.{seen};
@@ -23,21 +23,14 @@ pub fn at_year<T>(places: &[Option<T>; 20], year: u64) -> Option<&T>
 /// How many years have a place.
 pub(crate) const YEARS: u64 = 20;
 
-/// How many places there are up to and with that of a year.
-fn count_to(year: u64) -> usize
-    ensures { result ≡ min (year - 2016) 20 }
-{
-    year.saturating_sub(FIRST_YEAR - 1).min(YEARS) as usize
-}
-
 /// The places of the years up to and with a year. No method of `FacilityYear`: that an array has its
 /// twenty places is known of a parameter, and not of a field.
 pub(crate) fn up_to(places: &[Option<Signed>; 20], year: u64) -> &[Option<Signed>]
     ensures value { filings result.now ≡ up_to year (filings places.now) }
     ensures few { length result.now ≤ 20 }
 {
-    let count = count_to(year);
-    &places[..count]
+    let count = year.saturating_sub(FIRST_YEAR - 1) as usize;
+    places.get(..count).unwrap_or(places)
 }
 
 impl<'a> FacilityYear<'a> {
