@@ -21,6 +21,7 @@ use Rattle.register.specs.declared.refusals.Refusal.TheVariants.{Unknown, Vacant
 use Rattle.register.specs.declared.table.Assessment.{Assessment}
 use Rattle.register.specs.declared.table.Plant.{Plant}
 use Rattle.register.specs.declared.table.Register.{Register}
+use Rattle.register.proofs.Asking.{absent_none}
 use Rattle.register.proofs.Keeping.{check_holds, check_passes}
 use Rattle.register.proofs.Options.{none_of}
 use Rattle.register.proofs.Shown.{shown_is, vacant_none}
@@ -72,6 +73,17 @@ module _ {M : Type 0} (r : Register M) (f y : ℕ) (four : length r.plants ≡ 4
       ∙ ap (λ (p : Plant). option_map assessment_fields (at_year p.assessed y)) (sym d-is)
       ∙ ap (option_map assessment_fields) (sym a-is)
 
+-- whether the facility is enrolled, from what is held of it
+module _ {M : Type 0} (r : Register M) (f : ℕ) (four : length r.plants ≡ 4) (p : Plant) (is : p ≡ get_or r.plants (f - 1) p) where
+  held_same : 1 ≤ f → f ≤ 4 → (d : Plant) → d ≡ get_or r.plants (f - 1) d → d.enrolment ≡ p.enrolment
+  held_same low high d d-is = ap (λ (q : Plant). q.enrolment) (d-is ∙ get_or_default r.plants (f - 1) d p (omega (arith, low, high, four)) ∙ sym is)
+
+  pub held_absent : is_some p.enrolment ≡ false → Absent r f
+  held_absent gone low high d d-is = held_same low high d d-is ∙ none_of p.enrolment gone
+
+  pub held_enrolled : (e : Enrolment) → p.enrolment ≡ Some e → 1 ≤ f → f ≤ 4 → EnrolledBy r f e
+  held_enrolled e there low high = record { low = low; high = high; enrolment = λ d d-is. held_same low high d d-is ∙ there }
+
 pub looked_or : (o : Option Assessment) (t : Option AssessmentFields) (w : Refusal) → t ≡ option_map assessment_fields o → Looked (ok_or o w) t
 looked_or None t w h = h
 looked_or (Some a) t w h = h
@@ -91,11 +103,14 @@ enrolled_as_read μ m r es H f low high p b is =
     sym (ap is_some (H.plants_are f low high (get_or r.plants (f - 1) p) read).enrolment_is) ∙ mapped_some enrolled (get_or r.plants (f - 1) p).enrolment ∙ is
 
 module _ {M : Type 0} (μ : M → Meaning) (m : M) (r : Register M) (cs : List CallFields) (L : Lived μ m r cs) (f y : ℕ) where
-  pub look_unknown : is_some (enrolment_of (accepted cs) f) ≡ false → refused (refusal_told Unknown) ≡ answer_to (μ m) (look_up f y) cs
+  look_unknown : is_some (enrolment_of (accepted cs) f) ≡ false → refused (refusal_told Unknown) ≡ answer_to (μ m) (look_up f y) cs
   look_unknown gone =
       sym
       (ap (λ o. answer_by o (found (assessment_at (μ m) (accepted cs) f y)))
       (check_holds (unknown (accepted cs) f) (vacant (accepted cs) f y ∷ []) (ap not gone)))
+
+  pub look_absent : Absent r f → refused (refusal_told Unknown) ≡ answer_to (μ m) (look_up f y) cs
+  look_absent absent = look_unknown (ap is_some (absent_none μ m r (accepted cs) L f absent))
 
   -- an enrolled facility: the answer is what is shown
   pub look_enrolled : is_some (enrolment_of (accepted cs) f) ≡ true → (o : Option AssessmentFields) → shown_at r f y ≡ o → found o ≡ answer_to (μ m) (look_up f y) cs

@@ -1,31 +1,37 @@
 //! What can be seen of a register.
-ghost use Rattle.std.specs.Prelude.{◌≡◌, ◌-◌, List, slice_index_or};
+ghost use Rattle.std.specs.Prelude.{◌≡◌, ◌-◌, ◌≤◌, List, MatchResult, slice_index_or};
 ghost use Rattle.standard.specs.Places.{filings, filing_at, standing};
 ghost use Rattle.register.specs.Answers.{answer_to};
 ghost use Rattle.register.specs.Calls.{CallFields, look_up};
 ghost use Rattle.register.specs.Lived.{Lived};
+ghost use Rattle.register.specs.declared.refusals.Refusal.TheVariants.{Unknown};
 ghost use Rattle.register.specs.Steps.{Sought, StandsAt};
 ghost use Rattle.register.specs.Views.{shown_at, Looked, look_answer};
 
 use crate::places::{FACILITIES, Place};
 use crate::refusals::Refusal;
-use crate::table::{Assessment, Register};
+use crate::table::{Assessment, Plant, Register};
 use enrolment::enrolment::Enrolment;
 use filing::signed::Signed;
 use limit::method::LimitMethod;
 use standard::places::at_year;
 
 impl<M: LimitMethod> Register<M> {
-    /// The enrolment of a facility, which may be any number.
-    pub(crate) fn enrolment_of(&self, facility: u64) -> Result<Enrolment, Refusal>
-        ensures { Sought self.now facility result }
+    /// What is held of a facility, which may be any number.
+    fn plant_of(&self, facility: u64) -> Result<&Plant, Refusal>
+        ensures { MatchResult result (λ p. (1 ≤ facility) × (facility ≤ 4) × (p.now ≡ slice_index_or self.now.plants (facility - 1) p.now)) (λ w. (w ≡ Unknown) × (1 ≤ facility → facility ≤ 4 → ⊥)) }
     {
         if !(1..=FACILITIES).contains(&facility) {
             return Err(Refusal::Unknown);
         }
-        self.plants[(facility - 1) as usize]
-            .enrolment
-            .ok_or(Refusal::Unknown)
+        Ok(&self.plants[(facility - 1) as usize])
+    }
+
+    /// The enrolment of a facility, which may be any number.
+    pub(crate) fn enrolment_of(&self, facility: u64) -> Result<Enrolment, Refusal>
+        ensures { Sought self.now facility result }
+    {
+        self.plant_of(facility)?.enrolment.ok_or(Refusal::Unknown)
     }
 
     /// What stands at a place.
@@ -40,8 +46,8 @@ impl<M: LimitMethod> Register<M> {
         ensures shows { Looked result (shown_at self.now facility year) }
         ensures answers { (m : M) (cs : List CallFields) → Lived M.LimitMethod.meaning m self.now cs → look_answer result ≡ answer_to (M.LimitMethod.meaning m) (look_up facility year) cs }
     {
-        self.enrolment_of(facility)?;
-        let plant = &self.plants[(facility - 1) as usize];
+        let plant = self.plant_of(facility)?;
+        plant.enrolment.ok_or(Refusal::Unknown)?;
         at_year(&plant.assessed, year)
             .copied()
             .ok_or(Refusal::Vacant)

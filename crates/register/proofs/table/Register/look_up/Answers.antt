@@ -1,42 +1,56 @@
-use Rattle.std.proofs.Common.{◌≡◌, length, is_some, ap, sym, ◌∙◌, rules}
+use Rattle.std.proofs.Common.{◌≡◌, length, ap, sym, ◌∙◌, rules}
 use Rattle.std.specs.Option.{option_map}
 use Rattle.std.proofs.lemmas.Result.{err_from_is_err_and}
 use Rattle.register.specs.Acceptance.{accepted}
-use Rattle.standard.specs.Places.{at_year}
+use Rattle.register.specs.Steps.{Absent}
 use Rattle.register.specs.Views.{assessment_fields}
-use Rattle.register.specs.declared.refusals.Refusal.TheVariants.{Vacant}
-use Rattle.register.proofs.Asking.{absent_none, by_enrolled}
-use Rattle.register.proofs.Looks.{shown_unknown, shown_known, looked_or, answer_or_vacant, look_unknown, look_enrolled}
+use Rattle.register.specs.declared.refusals.Refusal.TheVariants.{Unknown, Vacant}
+use Rattle.register.proofs.Asking.{by_enrolled}
+use Rattle.register.proofs.Looks.{shown_unknown, shown_known, held_absent, held_enrolled, looked_or, answer_or_vacant, look_absent, look_enrolled}
+use Rattle.register.proofs.Options.{missing}
 use Rattle.register.proofs.table.Register.look_up.Goals as goal
 
-pub returns-in_err-enrolment_of : goal.returns-in_err-enrolment_of
-returns-in_err-enrolment_of g c =
+pub returns-in_err-plant : goal.returns-in_err-plant
+returns-in_err-plant g c =
     let f = c.args.facility in
     let four : length c.args.self.now.plants ≡ 4 = search rules in
     let p = err_from_is_err_and c.from_residual.result c.from_residual.ensures.1 in
-    rw (p.1, p.2, c.in_err-enrolment_of.ensures.0)
+    let absent : Absent c.args.self.now f = λ low high d d-is. absurd (c.in_err-plant.ensures.1 low high) in
+    rw (p.1, p.2, c.in_err-plant.ensures.0)
     (record {
-      shows = shown_unknown c.args.self.now f c.args.year four c.in_err-enrolment_of.ensures.1;
-      answers = λ m cs L.
-          look_unknown g.M.LimitMethod.meaning m c.args.self.now cs L f c.args.year
-          (ap is_some (absent_none g.M.LimitMethod.meaning m c.args.self.now (accepted cs) L f c.in_err-enrolment_of.ensures.1));
+      shows = shown_unknown c.args.self.now f c.args.year four absent;
+      answers = λ m cs L. look_absent g.M.LimitMethod.meaning m c.args.self.now cs L f c.args.year absent;
+    })
+
+pub returns-in_err-ok_or : goal.returns-in_err-ok_or
+returns-in_err-ok_or g c =
+    let f = c.args.facility in
+    let four : length c.args.self.now.plants ≡ 4 = search rules in
+    let plant = c.in_ok-plant.plant.now in
+    let p = err_from_is_err_and c.from_residual-in_err-ok_or.result c.from_residual-in_err-ok_or.ensures.1 in
+    let why = missing plant.enrolment Unknown _ c.in_err-ok_or.ensures.ok_part c.in_err-ok_or.ensures.value in
+    let absent = held_absent c.args.self.now f four plant c.in_ok-plant.ensures.2 (sym c.in_err-ok_or.ensures.variant) in
+    rw (p.1, p.2, why)
+    (record {
+      shows = shown_unknown c.args.self.now f c.args.year four absent;
+      answers = λ m cs L. look_absent g.M.LimitMethod.meaning m c.args.self.now cs L f c.args.year absent;
     })
 
 pub returns : goal.returns
 returns g c =
     let f = c.args.facility in
     let four : length c.args.self.now.plants ≡ 4 = search rules in
-    let by = c.in_ok-enrolment_of.ensures in
-    let shows =
-    shown_known c.args.self.now f c.args.year four c.in_ok-enrolment_of.field-0 by c.index-self-facility.result c.copied.result c.index-self-facility.is
-    (c.copied.ensures ∙ c.at_year.ensures.value ∙ sym (ap (λ d. at_year d.assessed c.args.year) c.index-self-facility.is))
-    in
-    rw c.ok_or.ensures.value
+    let plant = c.in_ok-plant.plant.now in
+    let held = c.in_ok-plant.ensures in
+    let e = c.in_ok-ok_or.field-0 in
+    let by = held_enrolled c.args.self.now f four plant held.2 e c.in_ok-ok_or.ensures.ok_part held.0 held.1 in
+    let shows = shown_known c.args.self.now f c.args.year four e by plant c.copied.result held.2 (c.copied.ensures ∙ c.at_year.ensures.value) in
+    rw c.ok_or-2.ensures.value
     (record {
       shows = looked_or c.copied.result _ Vacant shows;
       answers = λ m cs L.
           answer_or_vacant c.copied.result
           ∙ look_enrolled g.M.LimitMethod.meaning m c.args.self.now cs L f c.args.year
-          (by_enrolled g.M.LimitMethod.meaning m c.args.self.now (accepted cs) L f c.in_ok-enrolment_of.field-0 by)
+          (by_enrolled g.M.LimitMethod.meaning m c.args.self.now (accepted cs) L f e by)
           (option_map assessment_fields c.copied.result) shows;
     })
