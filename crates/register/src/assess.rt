@@ -1,5 +1,5 @@
 //! How a facility's places are assessed anew.
-ghost use Rattle.std.specs.Prelude.{◌≡◌, ℕ, ◌<◌, ◌≤◌, None as none, slice_index_or};
+ghost use Rattle.std.specs.Prelude.{◌≡◌, ℕ, ◌+◌, ◌<◌, ◌≤◌, None as none, slice_index_or};
 ghost use Rattle.std.specs.Option.{option_map};
 ghost use Rattle.filing.specs.Emissions.{emissions as emissions_of};
 ghost use Rattle.filing.specs.Views.{fields_of};
@@ -9,11 +9,8 @@ ghost use Rattle.standard.specs.Places.{filings, standing};
 ghost use Rattle.register.specs.Answers.{assessment};
 ghost use Rattle.register.specs.Views.{assessment_fields, anew_of, anew};
 
-use crate::places::PLACES;
 use crate::table::Assessment;
-use enrolment::enrolment::Enrolment;
 use filing::filing::Filing;
-use filing::signed::Signed;
 use limit::balance::balance;
 use limit::method::LimitMethod;
 use limit::outcome::Outcome;
@@ -41,25 +38,20 @@ fn fresh<M: LimitMethod>(method: &M, at: FacilityYear<'_>, number: u64) -> Optio
     Some(assessment_of(filing, method.outcome(at), number))
 }
 
-/// Assesses the places from one on anew, with a number.
+/// Assesses the years from that of `at` on anew, with a number.
 pub(crate) fn reassess<M: LimitMethod>(
     method: &M,
-    enrolment: &Enrolment,
-    places: &[Option<Signed>; 20],
+    at: FacilityYear<'_>,
     assessed: &mut [Option<Assessment>; 20],
-    from: usize,
     number: u64,
 )
-    ensures before { (k : ℕ) → k < from → slice_index_or assessed.new k none ≡ slice_index_or assessed.old k none }
-    ensures after { (k : ℕ) → from ≤ k → k < 20 → option_map assessment_fields (slice_index_or assessed.new k none) ≡ anew (M.LimitMethod.meaning method.now) (enrolled enrolment.now) (filings places.now) k number }
+    ensures before { (k : ℕ) → 2017 + k < at.entry.year → slice_index_or assessed.new k none ≡ slice_index_or assessed.old k none }
+    ensures after { (k : ℕ) → at.entry.year ≤ 2017 + k → k < 20 → option_map assessment_fields (slice_index_or assessed.new k none) ≡ anew (M.LimitMethod.meaning method.now) (enrolled at.entry.enrolment.now) (filings at.entry.places.now) k number }
 {
-    // By index: of `iter_mut().enumerate().skip(from)` the check knows no element that is passed over.
-    for i in from..PLACES {
-        let at = FacilityYear {
-            enrolment,
-            places,
-            year: FIRST_YEAR + i as u64,
-        };
-        assessed[i] = fresh(method, at, number);
+    for (i, slot) in assessed.iter_mut().enumerate() {
+        let year = FIRST_YEAR + i as u64;
+        if year >= at.year {
+            *slot = fresh(method, FacilityYear { year, ..at }, number);
+        }
     }
 }

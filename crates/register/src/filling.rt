@@ -10,6 +10,7 @@ use crate::table::{Plant, Register};
 use enrolment::enrolment::Enrolment;
 use filing::signed::Signed;
 use limit::method::LimitMethod;
+use standard::facility::FacilityYear;
 
 /// The last number.
 const LAST_NUMBER: u64 = 1_000_000;
@@ -26,16 +27,13 @@ impl Plant {
     )
         ensures { Refilled (M.LimitMethod.meaning method.now) self.old self.new (place.year - 2017) enrolment.now content number }
     {
-        let i = place.year_index();
-        self.places[i] = content;
-        reassess(
-            method,
+        self.places[place.year_index()] = content;
+        let at = FacilityYear {
             enrolment,
-            &self.places,
-            &mut self.assessed,
-            i,
-            number,
-        );
+            places: &self.places,
+            year: place.year,
+        };
+        reassess(method, at, &mut self.assessed, number);
     }
 }
 

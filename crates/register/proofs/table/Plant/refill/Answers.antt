@@ -1,4 +1,4 @@
-use Rattle.std.proofs.Common.{refl, ap, ◌∙◌}
+use Rattle.std.proofs.Common.{◌+◌, ◌<◌, ◌≤◌, refl, ap, ◌∙◌, arith}
 use Rattle.std.proofs.lemmas.List.{map-set}
 use Rattle.enrolment.specs.Views.{enrolled}
 use Rattle.standard.specs.Places.{filing_at}
@@ -7,13 +7,14 @@ use Rattle.register.proofs.table.Plant.refill.Goals as goal
 
 pub returns : goal.returns
 returns g c =
-    let placed = map-set filing_at c.args.self.now.places c.year_index-i.result c.args.content in
-    rw (← c.year_index-i.ensures.value)
+    let placed = map-set filing_at c.args.self.now.places c.year_index.result c.args.content in
+    rw (← c.year_index.ensures.value)
     (record {
       enrolment = refl;
       places = placed;
-      before = c.reassess.ensures.before;
+      before = λ k lt. let earlier : 2017 + k < c.args.place.year = omega (arith, lt, c.year_index.ensures.value, c.args.place.year_range.0) in c.reassess.ensures.before k earlier;
       after = λ k lo hi.
-          c.reassess.ensures.after k lo hi
+          let later : c.args.place.year ≤ 2017 + k = omega (arith, lo, c.year_index.ensures.value, c.args.place.year_range.0) in
+          c.reassess.ensures.after k later hi
           ∙ ap (λ ps. anew (g.M.LimitMethod.meaning c.args.method.now) (enrolled c.args.enrolment.now) ps k c.args.number) placed;
     })
