@@ -102,6 +102,7 @@ fn expected(step: &[u8], at: usize) -> &'static str {
 
 /// The word at a place, counted from 1, or no bytes.
 pub(crate) fn word<'a>(words: &[&'a [u8]], at: usize) -> &'a [u8] {
+    // Not `checked_sub` and `and_then(|i| words.get(i))`: the borrow checker does not cover what that closure gives.
     words.get(at.saturating_sub(1)).copied().unwrap_or(b"")
 }
 

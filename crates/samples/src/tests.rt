@@ -6,6 +6,7 @@ use filing::draft::Draft;
 use std::alloc::{AllocError, Global};
 use std::test::Fail;
 
+// Texts and no values: what a refusal prints is promised too, and with values it would need tests of its own.
 /// What the reader answers, in words.
 fn answer(heap: Global, bytes: &[u8]) -> Result<String, AllocError> {
     let mut signed = Draft::blank().sign();
