@@ -1,7 +1,5 @@
 pub mod Rows
 pub mod Refills
-pub mod Fills
-pub mod Anew
 pub mod Options
 pub mod Undone
 pub mod Enrolments

@@ -9,9 +9,6 @@ use standard::places::FIRST_YEAR;
 /// How many facilities there are.
 pub(crate) const FACILITIES: u64 = 4;
 
-/// How many places a facility has.
-pub(crate) const PLACES: usize = 20;
-
 /// The last year that has a place.
 pub(crate) const LAST_YEAR: u64 = 2036;
 
