@@ -19,5 +19,5 @@ count_is f = entered_length f.lines f.count (omega (arith, f.room, f.few))
 pub opened : (f : Filing) (l : LineFields) (k : LineKind) → f.count < most_lines → kind_of l.kind ≡ Some k → Open (fields_of f) l f.count k
 opened f l k h i = record { many = count_is f; room = h; is = i }
 
-pub held : (f : Filing) (l : LineFields) (ls : List Line) (b : Bool) → map line_fields ls ≡ entered f.lines f.count → b ≡ list_any (λ m. same l (line_fields m)) ls → among l (entered f.lines f.count) ≡ b
-held f l ls b e h = ap (among l) (sym e) ∙ sym (h ∙ among_any l ls)
+pub held : (f : Filing) (l m : LineFields) (ls : List Line) (b : Bool) → m ≡ l → map line_fields ls ≡ entered f.lines f.count → b ≡ list_any (λ own. same m (line_fields own)) ls → among l (entered f.lines f.count) ≡ b
+held f l m ls b i e h = ap (λ n. among n (entered f.lines f.count)) (sym i) ∙ ap (among m) (sym e) ∙ sym (h ∙ among_any m ls)

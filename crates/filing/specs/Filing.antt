@@ -36,6 +36,10 @@ abbrev pub lines_in_range : List LineFields → Bool
 lines_in_range [] = true
 lines_in_range (l ∷ ls) = kind_in_range (kind_of l.kind) l && lines_in_range ls
 
+-- of this kind, by its number, and with this number
+abbrev pub named : ℕ → ℕ → LineFields → Bool
+named kind number l = l.kind == kind && l.number == number
+
 -- equal kind and number
 abbrev pub same : LineFields → LineFields → Bool
 same l m = l.kind == m.kind && l.number == m.number

@@ -9,6 +9,7 @@ use crate::fields::{HeadFields, LineFields};
 use crate::filing::{Filing, MOST_LINES};
 use crate::kinds::LineKind;
 use crate::parts::{Head, Line};
+use crate::places::FIRST_YEAR;
 use crate::sums::{attributed_kg, holds, total_kg};
 use quantity::units::{Kilograms, Megawatts, Production, Standard};
 
@@ -33,14 +34,14 @@ impl Filing {
         Filing {
             head: Head {
                 facility: 1,
-                year: 2017,
+                year: FIRST_YEAR as u16,
                 co2: none,
                 ch4: none,
                 n2o: none,
                 sf6: none,
                 captured: none,
             },
-            lines: [blank_line(); 6],
+            lines: [blank_line(); MOST_LINES],
             count: 0,
         }
     }
@@ -74,7 +75,7 @@ impl Filing {
         };
         let line = Line::checked(kind, fields, place)?;
         let earlier = self.lines();
-        if holds(earlier, &fields) {
+        if holds(earlier, &line) {
             return Err(FilingFault::Twice { line: place });
         }
         if total_kg(&self.head) < attributed_kg(earlier) + line.attributed.kg {

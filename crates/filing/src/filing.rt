@@ -9,14 +9,14 @@ ghost use Rattle.filing.specs.Parts.{head_fields, entered};
 use crate::parts::{Head, Line};
 
 /// The most lines that a filing has.
-pub(crate) const MOST_LINES: usize = 6;
+pub const MOST_LINES: usize = 6;
 
-/// A head and the first `count` of six lines.
+/// A head and the first `count` of its lines.
 // Not an `ArrayVec`, which is not `Copy`: a register holds signed filings by value, and a draft takes no memory that can run out.
 #[derive(Clone, Copy)]
 pub struct Filing {
     pub(crate) head: Head,
-    pub(crate) lines: [Line; 6],
+    pub(crate) lines: [Line; MOST_LINES],
     pub(crate) count: usize,
     ghost room: { length lines ≡ most_lines },
     ghost few: { count ≤ most_lines },

@@ -8,6 +8,7 @@ pub mod fields;
 pub mod filing;
 pub mod kinds;
 pub mod parts;
+pub mod places;
 mod ranges;
 mod reading;
 pub mod signed;

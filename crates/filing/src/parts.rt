@@ -1,6 +1,7 @@
 //! A head and a line as a filing keeps them: each quantity of a type of its own.
 ghost use Rattle.std.specs.Prelude.{◌≡◌, Some};
-ghost use Rattle.filing.specs.Kinds.{kind_of};
+ghost use Rattle.filing.specs.Filing.{named};
+ghost use Rattle.filing.specs.Kinds.{kind_number, kind_of};
 ghost use Rattle.filing.specs.Parts.{head_fields, line_fields, HeadMade, LineMade};
 
 use crate::faults::FilingFault;
@@ -101,6 +102,13 @@ impl TryFrom<HeadFields> for Head {
 }
 
 impl Line {
+    /// Whether the line is of a kind and has a number.
+    pub fn is(&self, kind: LineKind, number: u16) -> bool
+        ensures { result ≡ named (kind_number kind) number (line_fields self.now) }
+    {
+        self.kind == kind && self.number == number
+    }
+
     /// The line with these fields after its kind, if each is in its range; `place` is where it would stand.
     // No `TryFrom`: a refusal names the place, which the fields don't have.
     pub(crate) fn checked(

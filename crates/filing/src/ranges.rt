@@ -8,6 +8,8 @@ ghost use Rattle.filing.specs.Told.{told};
 use crate::faults::FilingFault;
 use crate::fields::HeadFields;
 use crate::kinds::LineKind;
+use crate::places::{FACILITIES, FIRST_YEAR, LAST_YEAR};
+use quantity::units::{Kilograms, Megawatts, Production, Standard};
 
 /// The least and the most that a field may be.
 // Not a `RangeInclusive`, which is also spent or not: each contract over ranges would have to say that none is.
@@ -32,7 +34,7 @@ const NUMBER: Range = Range {
 
 const ATTRIBUTED: Range = Range {
     least: 0,
-    most: 200_000_000_000,
+    most: Kilograms::MOST,
 };
 
 const ABSENT: Range = Range { least: 0, most: 0 };
@@ -42,10 +44,13 @@ pub(crate) fn head_ranges(fields: &HeadFields) -> [Range; 7]
     ensures { result ≡ head_ranges fields.now }
 {
     [
-        Range { least: 1, most: 4 },
         Range {
-            least: 2017,
-            most: 2036,
+            least: 1,
+            most: FACILITIES,
+        },
+        Range {
+            least: FIRST_YEAR,
+            most: LAST_YEAR,
         },
         Range {
             least: 0,
@@ -76,13 +81,13 @@ pub(crate) fn line_ranges(kind: LineKind) -> [Range; 6]
 {
     let made = Range {
         least: 1,
-        most: 100_000_000_000,
+        most: Production::MOST,
     };
     match kind {
         LineKind::Numerical => {
             let standard = Range {
                 least: 0,
-                most: 10_000_000,
+                most: Standard::MOST,
             };
             [NUMBER, made, standard, ATTRIBUTED, ABSENT, ABSENT]
         }
@@ -94,7 +99,7 @@ pub(crate) fn line_ranges(kind: LineKind) -> [Range; 6]
             };
             let added = Range {
                 least: 0,
-                most: 1_000,
+                most: Megawatts::MOST,
             };
             let ratio = Range {
                 least: 0,

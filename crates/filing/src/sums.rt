@@ -6,7 +6,6 @@ ghost use Rattle.filing.specs.Emissions.{total};
 ghost use Rattle.filing.specs.Filing.{head_in_range, same, attributed_sum};
 ghost use Rattle.filing.specs.Parts.{head_fields, line_fields};
 
-use crate::fields::LineFields;
 use crate::parts::{Head, Line};
 
 /// All gases as kilograms of carbon dioxide equivalent, less what was captured and stored.
@@ -18,18 +17,11 @@ pub(crate) fn total_kg(head: &Head) -> u64
     head.co2.kg + 25 * head.ch4.kg + 298 * head.n2o.kg + 22_800 * head.sf6.kg - head.captured.kg
 }
 
-/// Whether a line has the kind and number of `fields`.
-fn alike(line: &Line, fields: &LineFields) -> bool
-    ensures { result ≡ same fields.now (line_fields line.now) }
+/// Whether one of the lines has the kind and number of `line`.
+pub(crate) fn holds(lines: &[Line], line: &Line) -> bool
+    ensures { result ≡ list_any (λ own. same (line_fields line.now) (line_fields own)) lines.now }
 {
-    fields.kind == u64::from(line.kind) && fields.number == u64::from(line.number)
-}
-
-/// Whether some line has the kind and number of `fields`.
-pub(crate) fn holds(lines: &[Line], fields: &LineFields) -> bool
-    ensures { result ≡ list_any (λ line. same fields.now (line_fields line)) lines.now }
-{
-    lines.iter().any(|line| alike(line, fields))
+    lines.iter().any(|own| line.is(own.kind, own.number))
 }
 
 /// The lines' attributed kilograms together.
