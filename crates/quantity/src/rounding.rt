@@ -6,13 +6,14 @@ ghost use Rattle.quantity.specs.Figures.{figure, Figure, unit_of, three_figures,
 use crate::units::{Kilograms, Production, Quotient, Tonnes};
 
 /// The whole number nearest to the quotient, a half up.
+#[tactic(auto, unfolding(crate::specs::Rounding::nearest))]
 pub fn nearest_whole(q: Quotient) -> u64
     ensures value { result ≡ nearest q.num q.den }
     ensures near { Nearest q.num q.den result }
     ensures only { (s : ℕ) → Nearest q.num q.den s → s ≡ result }
 {
-    let num = q.num as u128;
-    let den = q.den as u128;
+    let num = u128::from(q.num);
+    let den = u128::from(q.den);
     ((2 * num + den) / (2 * den)) as u64
 }
 
@@ -26,6 +27,7 @@ fn unit_of(q: Quotient) -> u64
 }
 
 /// The tie rule of three figures: the whole number nearest to the quotient, a half up.
+#[tactic(auto, unfolding(crate::specs::Figures::figure))]
 fn figure(q: Quotient) -> u64
     ensures value { result ≡ figure q.num q.den }
     ensures near { Figure q.num q.den result }

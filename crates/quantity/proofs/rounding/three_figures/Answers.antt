@@ -9,10 +9,10 @@ overflow_mul-unit c =
     let unit = unit_is _ _ _ (omega arith) (omega arith) c.unit_of-unit.ensures in
     omega (arith, unit_within _ _ _ 18446744073709551615 (omega arith) (omega arith) unit)
 
-pub invariant_of-figure : goal.invariant_of-figure
-invariant_of-figure c =
+pub invariant_of-figure-clause-divides : goal.invariant_of-figure-clause-divides
+invariant_of-figure-clause-divides c =
     let unit = unit_is _ _ _ (omega arith) (omega arith) c.unit_of-unit.ensures in
-    record { small = omega arith; divides = omega arith }
+    omega arith
 
 is : (c : goal.After-figure-figures) → c.figure-figures.result * c.unit_of-unit.result ≡ three_figures c.args.q.num c.args.q.den
 unfolding three_figures

@@ -5,12 +5,5 @@ use Rattle.quantity.proofs.units.Production.rounded.Goals as goal
 pub invariant_of-result : goal.invariant_of-result
 invariant_of-result c = record { range = figures_within _ _ _ 11 (omega arith) c.three_figures.ensures.meets }
 
-pub returns : goal.returns
-returns c =
-    let f = c.three_figures.ensures in
-    record {
-      value = f.value;
-      meets = f.meets;
-      only = f.only;
-      small = λ h. sym (f.only _ (figures_whole c.args.self.thousandths h));
-    }
+pub returns-clause-small : goal.returns-clause-small
+returns-clause-small c h = sym (c.three_figures.ensures.only _ (figures_whole c.args.self.thousandths h))
