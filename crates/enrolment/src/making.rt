@@ -9,6 +9,7 @@ use crate::enrolment::Enrolment;
 use crate::faults::EnrolmentFault;
 use crate::fields::EnrolmentFields;
 use crate::kinds::{Choice, EnrolmentKind};
+use filing::places::{FACILITIES, LAST_YEAR};
 
 /// The enrolment as bare numbers.
 impl From<Enrolment> for EnrolmentFields {
@@ -35,8 +36,8 @@ impl TryFrom<EnrolmentFields> for Enrolment {
     fn try_from(fields: EnrolmentFields) -> Result<Enrolment, EnrolmentFault> {
         let kind = EnrolmentKind::try_from(fields.kind)?;
         let choice = Choice::try_from(fields.choice)?;
-        if !(1..=4).contains(&fields.facility)
-            || !(1900..=2036).contains(&fields.year)
+        if !(1..=FACILITIES).contains(&fields.facility)
+            || !(1900..=LAST_YEAR).contains(&fields.year)
             || !(1..=days_in(fields.year)).contains(&fields.day)
             || !(1..=100).contains(&fields.factor)
         {
