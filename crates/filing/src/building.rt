@@ -70,9 +70,7 @@ impl Filing {
             return Err(FilingFault::Lines);
         }
         let place = self.count + 1;
-        let Ok(kind) = LineKind::try_from(fields.kind) else {
-            return Err(FilingFault::Kind { line: place });
-        };
+        let kind = LineKind::try_from(fields.kind).map_err(|_| FilingFault::Kind { line: place })?;
         let line = Line::checked(kind, fields, place)?;
         let earlier = self.lines();
         if holds(earlier, &line) {

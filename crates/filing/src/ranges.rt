@@ -2,7 +2,7 @@
 ghost use Rattle.std.specs.Prelude.{◌≡◌, ◌+◌, ◌<◌, ◌≤◌, IfSome, IfOk, IfErr, Some, None};
 ghost use Rattle.std.specs.List.{zip, position};
 ghost use Rattle.filing.specs.Checks.{out_of_range};
-ghost use Rattle.filing.specs.Ranges.{head_ranges, line_ranges, outside, first_outside};
+ghost use Rattle.filing.specs.Ranges.{◌to◌, head_ranges, line_ranges, outside, first_outside};
 ghost use Rattle.filing.specs.Told.{told};
 
 use crate::faults::FilingFault;
@@ -27,51 +27,33 @@ impl Range {
     }
 }
 
-const NUMBER: Range = Range {
-    least: 0,
-    most: 65_535,
-};
-
-const ATTRIBUTED: Range = Range {
-    least: 0,
-    most: Kilograms::MOST,
-};
-
-const ABSENT: Range = Range { least: 0, most: 0 };
+/// The range from 0 to a number.
+fn up_to(most: u64) -> Range
+    ensures { result ≡ (0 to most) }
+{
+    Range { least: 0, most }
+}
 
 /// The ranges of a head's fields, codes 1 to 7.
 pub(crate) fn head_ranges(fields: &HeadFields) -> [Range; 7]
     ensures { result ≡ head_ranges fields.now }
 {
+    let facility = Range {
+        least: 1,
+        most: FACILITIES,
+    };
+    let year = Range {
+        least: FIRST_YEAR,
+        most: LAST_YEAR,
+    };
     [
-        Range {
-            least: 1,
-            most: FACILITIES,
-        },
-        Range {
-            least: FIRST_YEAR,
-            most: LAST_YEAR,
-        },
-        Range {
-            least: 0,
-            most: 100_000_000_000,
-        },
-        Range {
-            least: 0,
-            most: 1_000_000_000,
-        },
-        Range {
-            least: 0,
-            most: 100_000_000,
-        },
-        Range {
-            least: 0,
-            most: 1_000_000,
-        },
-        Range {
-            least: 0,
-            most: fields.co2,
-        },
+        facility,
+        year,
+        up_to(100_000_000_000),
+        up_to(1_000_000_000),
+        up_to(100_000_000),
+        up_to(1_000_000),
+        up_to(fields.co2),
     ]
 }
 
@@ -79,33 +61,24 @@ pub(crate) fn head_ranges(fields: &HeadFields) -> [Range; 7]
 pub(crate) fn line_ranges(kind: LineKind) -> [Range; 6]
     ensures { result ≡ line_ranges kind }
 {
+    let number = up_to(65_535);
     let made = Range {
         least: 1,
         most: Production::MOST,
     };
+    let attributed = up_to(Kilograms::MOST);
+    let absent = up_to(0);
     match kind {
         LineKind::Numerical => {
-            let standard = Range {
-                least: 0,
-                most: Standard::MOST,
-            };
-            [NUMBER, made, standard, ATTRIBUTED, ABSENT, ABSENT]
+            let standard = up_to(Standard::MOST);
+            [number, made, standard, attributed, absent, absent]
         }
-        LineKind::Calculated => [NUMBER, made, ABSENT, ATTRIBUTED, ABSENT, ABSENT],
+        LineKind::Calculated => [number, made, absent, attributed, absent, absent],
         LineKind::Gaseous => {
-            let generated = Range {
-                least: 0,
-                most: 100_000_000,
-            };
-            let added = Range {
-                least: 0,
-                most: Megawatts::MOST,
-            };
-            let ratio = Range {
-                least: 0,
-                most: 10_000,
-            };
-            [NUMBER, generated, ABSENT, ATTRIBUTED, added, ratio]
+            let generated = up_to(100_000_000);
+            let added = up_to(Megawatts::MOST);
+            let ratio = up_to(10_000);
+            [number, generated, absent, attributed, added, ratio]
         }
     }
 }
@@ -124,6 +97,7 @@ fn place_outside<const N: usize>(values: &[u64; N], ranges: &[Range; N]) -> Opti
 // Values and ranges are two arrays, since the definitions go through two lists.
 
 /// Refuses the first value outside its range by its code, where the first value has the code `from`, and the line.
+#[tactic(auto, using(crate::proofs::Outside::outside_at))]
 pub(crate) fn check_ranges<const N: usize>(
     from: usize,
     values: &[u64; N],

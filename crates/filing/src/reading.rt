@@ -23,7 +23,7 @@ impl Filing {
         ensures fields { map line_fields result.now ≡ (fields_of self.now).lines }
         ensures kept { result.now ≡ take self.now.count self.now.lines }
     {
-        &self.lines[0..self.count]
+        &self.lines[..self.count]
     }
 
     /// How many lines there are.
