@@ -27,7 +27,7 @@ impl Range {
     }
 }
 
-/// The range from 0 to a number.
+/// The range from 0 to `most`.
 fn up_to(most: u64) -> Range
     ensures { result ≡ (0 to most) }
 {

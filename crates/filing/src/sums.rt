@@ -5,6 +5,7 @@ ghost use Rattle.filing.specs.Checks.{most_lines};
 ghost use Rattle.filing.specs.Emissions.{total};
 ghost use Rattle.filing.specs.Filing.{head_in_range, same, attributed_sum};
 ghost use Rattle.filing.specs.Parts.{head_fields, line_fields};
+ghost use Rattle.quantity.specs.Ranges.{most_kilograms};
 
 use crate::parts::{Head, Line};
 
@@ -12,7 +13,7 @@ use crate::parts::{Head, Line};
 pub(crate) fn total_kg(head: &Head) -> u64
     requires { head_in_range (head_fields head.now) ≡ true }
     ensures value { result ≡ total (head_fields head.now) }
-    ensures bound { result ≤ 200000000000 }
+    ensures bound { result ≤ most_kilograms }
 {
     head.co2.kg + 25 * head.ch4.kg + 298 * head.n2o.kg + 22_800 * head.sf6.kg - head.captured.kg
 }
