@@ -1,6 +1,6 @@
 -- Laws of the unit of the third figure.
 use Rattle.std.proofs.Common.{◌≡◌, ℕ, zero, suc, ◌-◌, ◌*◌, ◌/◌, ◌^◌, ◌<◌, ◌≤◌, ltb, Some, None, IfSome, IfNone, unwrap_or, Option, sym, refl, ap, ◌∙◌, subst, ⊎_elim, mul-le-mul_right, mul_assoc, mul_comm, div-lt_iff_lt-mul, le_antisymm, pow-suc, le-div_iff_mul-le, mul-one, mul_right_comm, arith}
-use native.Mathlib.Nat.{pow-le-pow_right, pow-succ'}
+use native.Mathlib.Nat.{one-le-pow, pow-le-pow_right, pow-succ'}
 use Rattle.std.proofs.lemmas.Bool.{cases_lt, cond_both, ltb-true, ltb-false}
 use Rattle.quantity.specs.Ranges.{most_numerator}
 use Rattle.quantity.specs.Figures.{unit_from, unit_of}
@@ -16,18 +16,21 @@ pub record IsUnit (n d u : ℕ) : Type 0 where
   pub reached : Reached n d u
   pub fits : n < 1000 * (u * d)
 
-reached_one : (n d : ℕ) → Reached n d 1
+pub reached_one : (n d : ℕ) → Reached n d 1
 reached_one n d = record { k = 0; is = refl; fills = λ h. absurd (omega arith) }
 
 ten_times : (u d : ℕ) → u * 10 * d ≡ 10 * (u * d)
 ten_times u d = mul_right_comm u 10 d ∙ mul_comm (u * d) 10
 
-reached_next : (n d u : ℕ) → 1000 * (u * d) ≤ n → Reached n d u → Reached n d (u * 10)
+pub reached_next : (n d u : ℕ) → 1000 * (u * d) ≤ n → Reached n d u → Reached n d (u * 10)
 reached_next n d u below r = record {
   k = suc r.k;
   is = ap (λ x. x * 10) r.is ∙ sym (pow-suc 10 r.k);
   fills = λ h. omega (arith, ten_times u d);
 }
+
+pub reached_positive : (n d u : ℕ) → Reached n d u → 0 < u
+reached_positive n d u r = omega (arith, r.is, one-le-pow r.k 10 (omega arith))
 
 -- no power of ten on the way is past the unit
 reached_le : (n d u w : ℕ) → Reached n d u → IsUnit n d w → u ≤ w
