@@ -1,6 +1,7 @@
 -- The code of the first field outside its range, by its place.
-use Rattle.std.proofs.Common.{◌≡◌, ℕ, suc, ◌+◌, Bool, true, false, cond, not, nat_lt, List, [], ◌∷◌, length, option_map, Some, None, Option, refl, arith}
+use Rattle.std.proofs.Common.{◌≡◌, ℕ, suc, ◌+◌, ◌<◌, ◌≤◌, Bool, true, false, cond, not, nat_lt, List, [], ◌∷◌, length, get_or, drop, option_map, Some, None, Option, refl, arith}
 use Rattle.std.specs.List.{zip, position, position_or_len}
+use Rattle.std.proofs.lemmas.List.{drop_more, drop_all}
 use Rattle.std.proofs.lemmas.Bool.Decides.{nat_tests}
 use Rattle.filing.specs.Ranges.{outside, first_outside}
 use Rattle.filing.specs.declared.ranges.Range.{Range}
@@ -14,3 +15,10 @@ pub outside_at : (c : ℕ) (ns : List ℕ) (rs : List Range) → first_outside c
 outside_at c [] rs = refl
 outside_at c (n ∷ ns) [] = refl
 outside_at c (n ∷ ns) (r ∷ rs) = one_before (outside n r) c (position_or_len (λ p. outside p.0 p.1) (zip ns rs)) (length (zip ns rs)) (first_outside (c + 1) ns rs) (outside_at (c + 1) ns rs)
+
+-- the pairs from the place i on
+pub outside_more : (c : ℕ) (ns : List ℕ) (rs : List Range) (i d : ℕ) (e : Range) → i < length ns → i < length rs → first_outside c (drop i ns) (drop i rs) ≡ cond (outside (get_or ns i d) (get_or rs i e)) (Some c) (first_outside (c + 1) (drop (i + 1) ns) (drop (i + 1) rs))
+outside_more c ns rs i d e h g = rw (drop_more ns i d h, drop_more rs i e g)
+
+pub outside_all : (c : ℕ) (ns : List ℕ) (rs : List Range) (i : ℕ) → length ns ≤ i → first_outside c (drop i ns) (drop i rs) ≡ None
+outside_all c ns rs i h = rw (drop_all i ns h)

@@ -1,6 +1,6 @@
 -- Which check of a new line refuses it, and that none does.
 use Rattle.std.proofs.Common.{◌≡◌, ℕ, ◌+◌, ◌<◌, ◌≤◌, true, false, leb, [], ◌∷◌, length, Some, None, ◌∙◌}
-use Rattle.std.proofs.lemmas.Bool.{lt-leb, lt-ltb, le-ltb}
+use Rattle.std.proofs.lemmas.Bool.{le-leb, lt-leb, lt-ltb, le-ltb}
 use Rattle.filing.specs.Checks.{most_lines, first, refused_if, out_of_range, above_total, line_refusal}
 use Rattle.filing.specs.Emissions.{total}
 use Rattle.filing.specs.Filing.{FilingFields, line_outside, among, attributed_sum}
@@ -8,6 +8,12 @@ use Rattle.filing.specs.Kinds.{kind_of}
 use Rattle.filing.specs.Told.{Told, refusal, line}
 use Rattle.filing.specs.declared.fields.LineFields.{LineFields}
 use Rattle.filing.specs.declared.kinds.LineKind.{LineKind}
+
+pub refused_full : (f : FilingFields) (l : LineFields) (n : ℕ) → length f.lines ≡ n → most_lines ≤ n → line_refusal f l ≡ Some (refusal 7 [])
+refused_full f l n e h = let b : leb most_lines n ≡ true = le-leb _ _ h in rw (e, b)
+
+pub refused_kind : (f : FilingFields) (l : LineFields) (n : ℕ) → length f.lines ≡ n → n < most_lines → kind_of l.kind ≡ None → line_refusal f l ≡ Some (refusal 6 ((line, n + 1) ∷ []))
+refused_kind f l n e h k = let b : leb most_lines n ≡ false = lt-leb _ _ h in rw (e, b, k)
 
 -- there is room, and the number is that of a kind
 pub record Open (f : FilingFields) (l : LineFields) (n : ℕ) (k : LineKind) : Type 0 where
