@@ -5,6 +5,18 @@ use lib.Arith.{digits_lt, digits_div, mod-mul}
 use Rattle.std.proofs.lemmas.List.{drop_more, get_or-drop}
 use Rattle.codec.specs.Numbers.{number, bytes_of}
 
+pub number_eight : (bs : List ℕ) → length bs ≡ 8 → number bs ≡ get_or bs 0 0 * 72057594037927936 + get_or bs 1 0 * 281474976710656 + get_or bs 2 0 * 1099511627776 + get_or bs 3 0 * 4294967296 + get_or bs 4 0 * 16777216 + get_or bs 5 0 * 65536 + get_or bs 6 0 * 256 + get_or bs 7 0
+number_eight (a ∷ b ∷ c ∷ d ∷ e ∷ f ∷ g ∷ h ∷ []) l = omega arith
+number_eight [] l = absurd (omega arith)
+number_eight (a ∷ []) l = absurd (omega arith)
+number_eight (a ∷ b ∷ []) l = absurd (omega arith)
+number_eight (a ∷ b ∷ c ∷ []) l = absurd (omega arith)
+number_eight (a ∷ b ∷ c ∷ d ∷ []) l = absurd (omega arith)
+number_eight (a ∷ b ∷ c ∷ d ∷ e ∷ []) l = absurd (omega arith)
+number_eight (a ∷ b ∷ c ∷ d ∷ e ∷ f ∷ []) l = absurd (omega arith)
+number_eight (a ∷ b ∷ c ∷ d ∷ e ∷ f ∷ g ∷ []) l = absurd (omega arith)
+number_eight (a ∷ b ∷ c ∷ d ∷ e ∷ f ∷ g ∷ h ∷ i ∷ t) l = absurd (omega arith)
+
 pub number_two : (bs : List ℕ) (at : ℕ) → at + 2 ≤ length bs → number (take 2 (drop at bs)) ≡ get_or bs at 0 * 256 + get_or bs (at + 1) 0
 number_two bs at h = rw (drop_more bs at 0 (omega arith), drop_more bs (at + 1) 0 (omega arith)) (omega arith)
 

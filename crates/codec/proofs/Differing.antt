@@ -31,6 +31,12 @@ known_is : (o : Option (List ℕ)) (row : List ℕ) → known o ≡ Ok row → o
 known_is None row h = absurd (err_ok h)
 known_is (Some r) row h = ap (λ x. Some x) (ok_inj h)
 
+some_inj : {X : Type 0} {x y : X} → Some x ≡ Some y → x ≡ y
+some_inj h = same_Some _ _ h
+
+none_some : {X : Type 0} {x : X} → None ≡ Some x → ⊥
+none_some {x = x} h = none-some x h
+
 -- line i of the schema and of the row, where the first line has the number m, up to line n that differs
 record OffAt (m n : ℕ) (ss rs : List ℕ) : Type 0 where
   counted : m ≤ n
@@ -55,9 +61,9 @@ matching_line None n h = absurd (ok_err h)
 matching_line (Some m) n h = ap (λ (t : Told). Some (first_value t.values)) (err_inj h)
 
 first_off_at : (m n : ℕ) (ss rs : List ℕ) → first_off m ss rs ≡ Some n → OffAt m n ss rs
-first_off_at m n [] [] h = absurd (none-some n h)
-first_off_at m n [] (r ∷ rs) h = off_here m n [] (r ∷ rs) (same_Some _ _ h) (none-some r)
-first_off_at m n (s ∷ ss) [] h = off_here m n (s ∷ ss) [] (same_Some _ _ h) some_none
+first_off_at m n [] [] h = absurd (none_some h)
+first_off_at m n [] (r ∷ rs) h = off_here m n [] (r ∷ rs) (some_inj h) none_some
+first_off_at m n (s ∷ ss) [] h = off_here m n (s ∷ ss) [] (some_inj h) some_none
 first_off_at m n (s ∷ ss) (r ∷ rs) h =
     elim (cases_Bool (eqb s r)) [
       | inl b ↦
@@ -70,7 +76,7 @@ first_off_at m n (s ∷ ss) (r ∷ rs) h =
             before = before_more m n s r ss rs e p;
             there = λ g. p.there (subst (λ (k : ℕ). line_at (s ∷ ss) k ≡ line_at (r ∷ rs) k) z g);
           }
-      | inr b ↦ off_here m n (s ∷ ss) (r ∷ rs) (same_Some _ _ (sym (cond-false (eqb s r) (first_off (m + 1) ss rs) (Some m) b) ∙ h)) (λ g. eqb-false s r b (same_Some _ _ g))
+      | inr b ↦ off_here m n (s ∷ ss) (r ∷ rs) (some_inj (sym (cond-false (eqb s r) (first_off (m + 1) ss rs) (Some m) b) ∙ h)) (λ g. eqb-false s r b (some_inj g))
     ]
 
 -- a schema that is refused

@@ -1,7 +1,8 @@
 -- A schema against its row, line by line.
-use Rattle.std.proofs.Common.{◌≡◌, ℕ, suc, ◌+◌, ◌<◌, ◌≤◌, max, Bool, true, false, cond, eqb, ltb, List, [], ◌∷◌, length, map, Some, None, Option, sym, refl, ap, ◌∙◌, inl, inr, arith}
+use Rattle.std.proofs.Common.{◌≡◌, ℕ, suc, ◌+◌, ◌<◌, ◌≤◌, max, Bool, true, false, cond, eqb, ltb, List, [], ◌∷◌, length, get_or, drop, map, Some, None, Option, sym, refl, ap, ◌∙◌, inl, inr, arith}
 use Rattle.std.specs.List.{find, prefix_len, zip}
 use Rattle.std.specs.Option.{option_map}
+use Rattle.std.proofs.lemmas.List.{drop_more, drop_all}
 use Rattle.std.proofs.lemmas.List.Recursion.{same_from_clauses}
 use Rattle.std.proofs.lemmas.Bool.{cases_Bool, cases_lt, cond-true, cond-false, lt-ltb, le-ltb, eqb-true}
 use Rattle.codec.specs.Table.{first_off, heads, row_in}
@@ -43,6 +44,28 @@ off_is n k m ss rs e f =
       | inl h ↦ off_after n ss rs (omega arith) ∙ ap (λ j. Some (n + j)) (sym e) ∙ sym (cond-true _ _ _ (lt-ltb k m h))
       | inr h ↦ off_nowhere n ss rs (omega arith) ∙ sym (cond-false _ _ _ (le-ltb k m h))
     ]
+
+-- a schema and a row, and the codes of a row, from the place i on
+pub off_more : (n : ℕ) (ss rs : List ℕ) (i : ℕ) → i < length ss → i < length rs → first_off n (drop i ss) (drop i rs) ≡ cond (eqb (get_or ss i 0) (get_or rs i 0)) (first_off (n + 1) (drop (i + 1) ss) (drop (i + 1) rs)) (Some n)
+off_more n ss rs i h g = rw (drop_more ss i 0 h, drop_more rs i 0 g)
+
+pub off_long : (n : ℕ) (ss rs : List ℕ) (i : ℕ) → i < length ss → length rs ≤ i → first_off n (drop i ss) (drop i rs) ≡ Some n
+off_long n ss rs i h g = rw (drop_more ss i 0 h, drop_all i rs g)
+
+pub off_short : (n : ℕ) (ss rs : List ℕ) (i : ℕ) → length ss ≤ i → i < length rs → first_off n (drop i ss) (drop i rs) ≡ Some n
+off_short n ss rs i h g = rw (drop_all i ss h, drop_more rs i 0 g)
+
+pub off_both : (n : ℕ) (ss rs : List ℕ) (i : ℕ) → length ss ≤ i → length rs ≤ i → first_off n (drop i ss) (drop i rs) ≡ None
+off_both n ss rs i h g = rw (drop_all i ss h, drop_all i rs g)
+
+pub heads_head : (cs : List ℕ) (i : ℕ) → i < length cs → get_or cs i 0 < 21 → heads (drop i cs) ≡ suc (heads (drop (i + 1) cs))
+heads_head cs i h g = let b = lt-ltb (get_or cs i 0) 21 g in rw (drop_more cs i 0 h, b)
+
+pub heads_line : (cs : List ℕ) (i : ℕ) → i < length cs → 21 ≤ get_or cs i 0 → heads (drop i cs) ≡ 0
+heads_line cs i h g = let b = le-ltb (get_or cs i 0) 21 g in rw (drop_more cs i 0 h, b)
+
+pub heads_all : (cs : List ℕ) (i : ℕ) → length cs ≤ i → heads (drop i cs) ≡ 0
+heads_all cs i h = rw (drop_all i cs h)
 
 pub some_none : {A : Type 0} {x : A} → Some x ≡ None → ⊥
 some_none h = grind arith
