@@ -4,3 +4,4 @@ pub mod Digits
 pub mod Row
 pub mod Readings
 pub mod Pairs
+pub mod Records

@@ -1,5 +1,5 @@
 -- The bytes that the decoder of hexadecimal text gives are those of the pairs of digits.
-use Rattle.std.proofs.Common.{◌≡◌, ℕ, ◌+◌, ◌*◌, ◌/◌, ◌%◌, Bool, true, false, ◌==◌, eqb, List, [], ◌∷◌, length, take, drop, Some, None, Option, Ok, Err, Result, MatchResult, is_ok, sym, refl, ap, ◌∙◌, arith}
+use Rattle.std.proofs.Common.{◌≡◌, ℕ, ◌+◌, ◌*◌, ◌/◌, ◌%◌, Bool, true, false, ◌==◌, eqb, List, [], ◌∷◌, ◌++◌, length, take, drop, Some, None, Option, Ok, Err, Result, MatchResult, is_ok, sym, refl, ap, ◌∙◌, append_assoc, arith}
 use Rattle.std.specs.Bool.{then_some}
 use Rattle.std.specs.Option.{option_map}
 use Rattle.std.proofs.lemmas.Bool.{cond_both, cond-true, eqb-true, eqb-false}
@@ -77,3 +77,21 @@ answered (Err e) r out h = rw h refl
 pub mapped : {X Y : Type 0} (f : X → Y) (b : Bool) (x : X) → option_map f (then_some b x) ≡ then_some b (f x)
 mapped f true x = refl
 mapped f false x = refl
+
+-- the bytes that are done, before those of the digits to come
+abbrev pub joined : List ℕ → Option (List ℕ) → Option (List ℕ)
+joined xs o = option_map (λ ys. xs ++ ys) o
+
+joined_more : (xs : List ℕ) (x : ℕ) (o : Option (List ℕ)) → joined xs (both (λ y ys. y ∷ ys) (Some x) o) ≡ joined (xs ++ x ∷ []) o
+joined_more xs x None = refl
+joined_more xs x (Some ys) = ap Some (sym (append_assoc xs (x ∷ []) ys))
+
+-- two digits to a byte
+abbrev Paired : List ℕ → Option (List ℕ) → Type 0
+Paired ds None = Unit {0}
+Paired ds (Some bs) = length ds ≡ 2 * length bs
+
+paired_more : (a b : ℕ) (ds : List ℕ) (x : Option ℕ) (o : Option (List ℕ)) → Paired ds o → Paired (a ∷ b ∷ ds) (both (λ y ys. y ∷ ys) x o)
+paired_more a b ds None o h = tt
+paired_more a b ds (Some x) None h = tt
+paired_more a b ds (Some x) (Some bs) h = omega arith

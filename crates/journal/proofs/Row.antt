@@ -11,6 +11,10 @@ use Rattle.journal.specs.Steps.{and_then, placed, numbers}
 abbrev pub joined : List ℕ → Result (List ℕ) Misread → Result (List ℕ) Misread
 joined xs r = and_then r (λ ys. Ok (xs ++ ys))
 
+joined_nil : (r : Result (List ℕ) Misread) → joined [] r ≡ r
+joined_nil (Ok ys) = refl
+joined_nil (Err e) = refl
+
 joined_more : (xs : List ℕ) (x : ℕ) (r : Result (List ℕ) Misread) → joined xs (and_then r (λ ys. Ok (x ∷ ys))) ≡ joined (xs ++ x ∷ []) r
 joined_more xs x (Ok ys) = ap Ok (sym (append_assoc xs (x ∷ []) ys))
 joined_more xs x (Err e) = refl
