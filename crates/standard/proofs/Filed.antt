@@ -1,9 +1,10 @@
 -- What the lines of a sound filing come to for an activity.
-use Rattle.std.proofs.Common.{◌≡◌, ℕ, ◌<◌, ◌≤◌, true, ltb, List, length, take, Some, sym, ap, ◌∙◌, subst, arith}
-use Rattle.std.proofs.lemmas.List.{length-take}
+use Rattle.std.proofs.Common.{◌≡◌, ℕ, ◌<◌, ◌≤◌, true, ltb, List, map, length, take, Some, sym, ap, ◌∙◌, subst, arith}
+use Rattle.std.proofs.lemmas.List.{length-map, length-take}
 use Rattle.std.proofs.lemmas.Bool.{eqb-true, and_parts, ltb-true}
 use Rattle.filing.specs.Filing.{FilingFields}
 use Rattle.filing.specs.Kinds.{kind_of}
+use Rattle.filing.specs.Parts.{line_fields}
 use Rattle.filing.specs.Ranges.{line_numbers, line_ranges}
 use Rattle.filing.specs.Sound.{InRange, LineInRange, Sound}
 use Rattle.filing.specs.declared.fields.LineFields.{LineFields}
@@ -13,6 +14,9 @@ use Rattle.filing.specs.declared.kinds.LineKind.TheVariants.{Calculated}
 use Rattle.filing.specs.declared.parts.Line.{Line}
 use Rattle.standard.specs.Reference.{of_activity, has_activity, made_by}
 use Rattle.standard.proofs.Lines.{some_passed}
+
+pub few_lines_filed : (f : FilingFields) (ls : List Line) → Sound f → map line_fields ls ≡ f.lines → length ls ≤ 6
+few_lines_filed f ls s e = omega (arith, s.few, ap length e, length-map ls line_fields)
 
 -- a calculated line has production
 produces : (activity : ℕ) (l : LineFields) → LineInRange l → of_activity activity l ≡ true → 1 ≤ l.production
