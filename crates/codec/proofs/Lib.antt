@@ -9,3 +9,4 @@ pub mod WriteBack
 pub mod ReadBack
 pub mod Numbered
 pub mod Differing
+pub mod Split

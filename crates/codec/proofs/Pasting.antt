@@ -1,14 +1,13 @@
 -- Bytes put into a buffer, one part after another.
-use Rattle.std.proofs.Common.{◌≡◌, ℕ, ◌+◌, ◌-◌, ◌*◌, ◌<◌, ◌≤◌, List, [], ◌∷◌, ◌++◌, length, get_or, take, drop, sym, refl, ap, ◌∙◌, subst, add-zero, zero-add, mul-le-mul_left, mul-one, mul-add, arith}
-use native.Mathlib.Nat.{sub-zero}
+use Rattle.std.proofs.Common.{◌≡◌, ℕ, ◌+◌, ◌*◌, ◌<◌, ◌≤◌, List, [], ◌∷◌, ◌++◌, length, get_or, take, drop, sym, refl, ap, ◌∙◌, subst, add-zero, mul-le-mul_left, mul-one, mul-add, arith}
 use borrow.Rule.Slice.PartMut.{put_mid}
 use Rattle.std.specs.List.{flat_map}
-use Rattle.std.proofs.lemmas.List.{append_assoc, take-append-drop, drop-drop, take_at, drop_at, length-append, length-take-le, length-drop, take_rest, take_more, flat_map_more}
+use Rattle.std.proofs.lemmas.List.{append_assoc, take-append-drop, drop-drop, take_at, drop_at, length-append, length-take-le, take_more, flat_map_more}
 use Rattle.filing.specs.Filing.{FilingFields}
 use Rattle.codec.specs.Fields.{head_field, line_field}
 use Rattle.codec.specs.Numbers.{bytes_of}
-use Rattle.codec.specs.Table.{heads, head_codes, line_codes, written_version, written_row}
-use Rattle.codec.specs.Writing.{pasted, field_bytes, line_bytes, opening_bytes, record_of, written, Put}
+use Rattle.codec.specs.Table.{head_codes, line_codes, written_version, written_row}
+use Rattle.codec.specs.Writing.{pasted, field_bytes, line_bytes, record_of, written, Put}
 use Rattle.codec.specs.declared.writer.Output.{Output}
 
 pub put_pasted : (old ys zs : List ℕ) (at k : ℕ) → k ≡ length zs → ys ≡ zs → put_mid at k old ys ≡ pasted old at zs
@@ -116,47 +115,6 @@ module _ (v : ℕ) (row : List ℕ) (f : FilingFields) (heads lines many : ℕ) 
         length-append (field_bytes (head_codes row) (head_field f.head)) (length f.lines ∷ flat_map (line_bytes (line_codes row)) f.lines),
         length-append row (field_bytes (head_codes row) (head_field f.head) ++ (length f.lines ∷ flat_map (line_bytes (line_codes row)) f.lines)),
       )
-
--- the four parts of a record, with the row split at n
-module _ (v : ℕ) (row : List ℕ) (f : FilingFields) (n : ℕ) (e : n ≡ heads row) (w : n ≤ length row) where
-  heading_is : field_bytes (take (n - 0) row) (head_field f.head) ≡ field_bytes (head_codes row) (head_field f.head)
-  heading_is = ap (λ m. field_bytes (take m row) (head_field f.head)) (sub-zero n ∙ e)
-
-  lines_are : flat_map (line_bytes (take (length row - n) (drop n row))) f.lines ≡ flat_map (line_bytes (line_codes row)) f.lines
-  lines_are = ap (λ cs. flat_map (line_bytes cs) f.lines) (take_rest row n ∙ ap (λ m. drop m row) e)
-
-  heads_long : 8 * n ≡ 8 * length (head_codes row)
-  heads_long = ap (λ k. 8 * k) (sym (length-take-le (heads row) row (omega arith) ∙ sym e))
-
-  lines_long : 8 * (length row - n) ≡ 8 * length (line_codes row)
-  lines_long = ap (λ k. 8 * k) (sym (length-drop (heads row) row ∙ ap (λ m. length row - m) (sym e)))
-
-  long_heading : length (field_bytes (head_codes row) (head_field f.head)) ≡ 8 * n
-  long_heading = length_heading v row f (8 * n) (8 * (length row - n)) (length f.lines) heads_long lines_long refl
-
-  long_lines : length (flat_map (line_bytes (line_codes row)) f.lines) ≡ 8 * (length row - n) * length f.lines
-  long_lines = length_lines v row f (8 * n) (8 * (length row - n)) (length f.lines) heads_long lines_long refl
-
-  pub record_parts : (old b1 b2 b3 b4 : List ℕ) → 6 + length row + 8 * n + 1 + 8 * (length row - n) * length f.lines ≤ length old
-      → b1 ≡ pasted old 0 (opening_bytes v row)
-      → b2 ≡ pasted b1 (6 + length row) (field_bytes (take (n - 0) row) (head_field f.head))
-      → b3 ≡ pasted b2 (6 + length row + 8 * n) (length f.lines ∷ [])
-      → b4 ≡ pasted b3 (6 + length row + 8 * n + 1) (flat_map (line_bytes (take (length row - n) (drop n row))) f.lines)
-      → b4 ≡ record_of v row f ++ drop (length (record_of v row f)) old
-  record_parts old b1 b2 b3 b4 h e1 e2 e3 e4 =
-      let a : List ℕ = opening_bytes v row in
-      let b : List ℕ = field_bytes (head_codes row) (head_field f.head) in
-      let c : List ℕ = length f.lines ∷ [] in
-      let d : List ℕ = flat_map (line_bytes (line_codes row)) f.lines in
-      let la : length a ≡ 6 + length row = omega arith in
-      let lab : length (a ++ b) ≡ 6 + length row + 8 * n = length-append a b ∙ omega (arith, la, long_heading) in
-      let labc : length ((a ++ b) ++ c) ≡ 6 + length row + 8 * n + 1 = length-append (a ++ b) c ∙ omega (arith, lab) in
-      let s2 : b2 ≡ pasted old 0 (a ++ b) = e2 ∙ ap (pasted b1 (6 + length row)) heading_is ∙ ap (λ x. pasted x (6 + length row) b) e1 ∙ pasted_both old a b 0 (6 + length row) (omega arith) (omega (arith, long_heading)) in
-      let s3 : b3 ≡ pasted old 0 ((a ++ b) ++ c) = e3 ∙ ap (λ x. pasted x (6 + length row + 8 * n) c) s2 ∙ pasted_both old (a ++ b) c 0 (6 + length row + 8 * n) (omega arith) (omega arith) in
-      let s4 : b4 ≡ pasted old 0 (((a ++ b) ++ c) ++ d) =
-      e4 ∙ ap (pasted b3 (6 + length row + 8 * n + 1)) lines_are ∙ ap (λ x. pasted x (6 + length row + 8 * n + 1) d) s3
-      ∙ pasted_both old ((a ++ b) ++ c) d 0 (6 + length row + 8 * n + 1) (omega arith) (omega (arith, long_lines)) in
-      s4 ∙ ap (pasted old 0) (append_assoc (a ++ b) c d ∙ append_assoc a b (c ++ d)) ∙ ap (λ m. record_of v row f ++ drop m old) (zero-add (length (record_of v row f)))
 
 pub same_record : (v : ℕ) (row : List ℕ) {f g : FilingFields} → v ≡ written_version → row ≡ written_row → f ≡ g → record_of v row f ≡ written g
 same_record v row {f} {g} a b c = ap (λ u. record_of u row f) a ∙ ap (λ r. record_of written_version r f) b ∙ ap written c

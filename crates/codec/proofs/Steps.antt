@@ -1,7 +1,5 @@
 -- The links of a reading, one after another.
-use Rattle.std.proofs.Common.{◌≡◌, ℕ, suc, ◌+◌, ◌-◌, ◌*◌, ◌<◌, List, ltb, length, get_or, take, drop, None, Ok, Err, Result, sym, ap, ◌∙◌, arith}
-use native.Mathlib.Nat.{sub-zero}
-use Rattle.std.proofs.lemmas.List.{take_rest}
+use Rattle.std.proofs.Common.{◌≡◌, ℕ, suc, ◌+◌, ◌-◌, ◌*◌, ◌<◌, List, ltb, length, get_or, take, None, Ok, Err, Result, sym, ap, ◌∙◌, arith}
 use Rattle.std.proofs.lemmas.List.Folds.{length-prefix_len}
 use Rattle.filing.specs.Checks.{adding}
 use Rattle.filing.specs.Filing.{FilingFields}
@@ -10,7 +8,7 @@ use Rattle.codec.specs.Fields.{line_of}
 use Rattle.codec.specs.Reading.{and_then, part, matching, schema, headed, counted, lined, body, head_at, count_at}
 use Rattle.codec.proofs.Inverting.{part_length}
 use Rattle.codec.proofs.Schemas.{heads_prefix, off_none}
-use Rattle.codec.specs.Table.{heads, head_codes, line_codes, first_off}
+use Rattle.codec.specs.Table.{head_codes, line_codes, first_off}
 
 pub then_ok : {X Y E : Type 0} {r : Result X E} {x : X} (k : X → Result Y E) → r ≡ Ok x → and_then r k ≡ k x
 then_ok k h = ap (λ r. and_then r k) h
@@ -43,17 +41,6 @@ schema_passed row bs count codes at next end n same z h b m k c e o =
     let h5 : part 5 1 bs ≡ Ok count = ap (λ i. part i 1 bs) (sym z) ∙ h in
     let c6 : part 6 (get_or count 0 0) bs ≡ Ok codes = ap (λ i. part i (get_or count 0 0) bs) (sym six) ∙ ap (λ i. part next i bs) (sym k) ∙ ap (part next n) (sym b) ∙ c in
     (then_ok _ h5 ∙ then_ok _ c6 ∙ ap matching (sym o), omega (arith, part_length next n same codes c, ap length (off_none 1 codes row (sym o))))
-
--- a row that is split at n
-module _ (row bs : List ℕ) (n : ℕ) (e : n ≡ heads row) where
-  head_part : take (n - 0) row ≡ head_codes row
-  head_part = ap (λ m. take m row) (sub-zero n ∙ e)
-
-  line_part : take (length row - n) (drop n row) ≡ line_codes row
-  line_part = take_rest row n ∙ ap (λ m. drop m row) e
-
-  lined_at : (k : ℕ) (f : FilingFields) → lined (take (length row - n) (drop n row)) k (6 + length row + 8 * n + 1) bs f ≡ lined (line_codes row) k (count_at row + 1) bs f
-  lined_at k f = ap (λ cs. lined cs k (6 + length row + 8 * n + 1) bs f) line_part ∙ ap (λ m. lined (line_codes row) k (head_at row + 8 * m + 1) bs f) e
 
 -- the parts of the body, where each begins where the one before it ends
 module _ (row bs head line : List ℕ) (at next : ℕ) (same : List ℕ) (d : head ≡ head_codes row) (l : line ≡ line_codes row) (z : at ≡ head_at row) (b : same ≡ bs) (e : next ≡ at + 8 * length head) where
