@@ -12,7 +12,7 @@ push xs x = sym (ap (fold then_digit 0) (map_push (λ (y : Bor ℕ). y.now) xs x
 abbrev pub value_after : ℕ → List ℕ → ℕ
 value_after n w = fold then_digit n w
 
-at_least : (n : ℕ) (w : List ℕ) → n ≤ value_after n w
+at_least : (n : ℕ) (bs : List ℕ) → n ≤ value_after n bs
 at_least n [] = omega arith
 at_least n (b ∷ bs) = omega (arith, at_least (then_digit n b) bs)
 
@@ -59,6 +59,10 @@ pub record Sofar (bs : List ℕ) (n i : ℕ) : Type 0 where
   pub digits : all_digits (drop i bs) ≡ true
   pub whole : value_after n (drop i bs) ≡ value bs
 
-module _ (bs : List ℕ) (n i : ℕ) (s : Sofar bs n i) (h : i < length bs) where
-  pub digit_low : 48 ≤ get_or bs i 0
-  digit_low = leb-true _ _ (and_parts _ _ (and_parts _ _ (sym (digits_more bs i h) ∙ s.digits)).0).0
+module _ (bs : List ℕ) (n i : ℕ) (s : Sofar bs n i) where
+  module _ (h : i < length bs) where
+    tested : (digit (get_or bs i 0) ≡ true) × (all_digits (drop (i + 1) bs) ≡ true)
+    tested = and_parts _ _ (sym (digits_more bs i h) ∙ s.digits)
+
+    pub digit_low : 48 ≤ get_or bs i 0
+    digit_low = leb-true _ _ (and_parts _ _ tested.0).0
