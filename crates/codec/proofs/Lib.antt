@@ -2,6 +2,7 @@ pub mod Schemas
 pub mod Bytes
 pub mod Lookups
 pub mod Steps
+pub mod Split
 pub mod Pasting
 pub mod Inverting
 pub mod Prefixes
@@ -9,4 +10,3 @@ pub mod WriteBack
 pub mod ReadBack
 pub mod Numbered
 pub mod Differing
-pub mod Split

@@ -2,6 +2,6 @@ pub mod Marks
 pub mod Runs
 pub mod Digits
 pub mod Row
+pub mod Records
 pub mod Readings
 pub mod Pairs
-pub mod Records
