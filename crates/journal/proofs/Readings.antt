@@ -1,9 +1,11 @@
 -- What a line's words say means what it should.
-use Rattle.std.proofs.Common.{◌≡◌, ℕ, zero, suc, ◌+◌, ◌-◌, ◌<◌, ◌≤◌, true, false, List, [], ◌∷◌, map, length, get_or, take, drop, Some, None, Ok, Err, codes, Option, Result, sym, refl, ap, ◌∙◌, subst, arith, Bor}
+use Rattle.std.proofs.Common.{◌≡◌, ℕ, zero, suc, ◌+◌, ◌-◌, ◌<◌, ◌≤◌, true, false, List, [], ◌∷◌, map, length, get_or, take, drop, Some, None, Ok, Err, codes, Option, Result, MatchOption, IsSomeAnd, sym, refl, ap, ◌∙◌, subst, arith, Bor}
 use Rattle.std.proofs.lemmas.Slice.Eq.{bytes_eq-Decides}
 use Rattle.std.proofs.lemmas.List.{take_rest, nil_from_length}
 use Rattle.std.proofs.lemmas.Bool.{cond_both, both_ways}
 use Rattle.std.specs.Str.{bytes_eq}
+use Rattle.std.specs.Option.{option_transpose}
+use Rattle.std.specs.List.{IsFirstAndRest}
 use Rattle.journal.specs.declared.numbers.NumberFault.{NumberFault}
 use Rattle.journal.specs.declared.steps.Misread.{Misread}
 use Rattle.journal.specs.declared.steps.Misread.TheVariants.{UnknownStep, Missing, Extra}
@@ -13,14 +15,6 @@ use Rattle.journal.specs.Words.{contents}
 use Rattle.journal.specs.Numbers.{decimal}
 use Rattle.journal.specs.Steps.{place, and_then, placed, numbers, head_of, line_of, named, step}
 use Rattle.journal.specs.Meaning.{name, figures, Numerals, Spells, Cause, Stops, Named, Means}
-
-pub none : (ss : List (Bor (List ℕ))) → length ss < 1 → Ok None ≡ step (contents ss)
-none [] h = refl
-none (s ∷ ss) h = absurd (omega arith)
-
-some : (ss : List (Bor (List ℕ))) (d : Bor (List ℕ)) → 1 ≤ length ss → step (contents ss) ≡ and_then (named (get_or ss 0 d).now (contents (take (length ss - 1) (drop 1 ss)))) (λ s. Ok (Some s))
-some [] d h = absurd (omega arith)
-some (s ∷ ss) d h = ap (λ l. and_then (named s.now (contents l)) (λ s. Ok (Some s))) (sym (take_rest (s ∷ ss) 1))
 
 -- a row of numbers is n numerals, or numerals up to a fault
 abbrev Row : ℕ → ℕ → List (List ℕ) → Result (List ℕ) Misread → Type 0
@@ -132,6 +126,12 @@ reads s (w ∷ ws) h = ap (λ r. and_then r (λ s. Ok (Some s))) (ap (λ v. name
 pub told : (ws : List (List ℕ)) (r : Result (Option Step) Misread) → r ≡ step ws → Means ws r × ((s : Step) → Spells s ws → r ≡ Ok (Some s))
 told ws r e = (subst (Means ws) (sym e) (means ws), λ s h. e ∙ reads s ws h)
 
--- a result of the word and the words after it is one of the line
-pub on : (ss : List (Bor (List ℕ))) (d : Bor (List ℕ)) (r : Result Step Misread) → 1 ≤ length ss → r ≡ named (get_or ss 0 d).now (contents (take (length ss - 1) (drop 1 ss))) → and_then r (λ s. Ok (Some s)) ≡ step (contents ss)
-on ss d r h e = ap (λ r. and_then r (λ s. Ok (Some s))) e ∙ sym (some ss d h)
+transposed : (r : Result Step Misread) → option_transpose (Some r) ≡ and_then r (λ s. Ok (Some s))
+transposed (Ok s) = refl
+transposed (Err e) = refl
+
+-- the result of the first word and those after it, or of no word, is that of the line
+pub heard : (ss : List (Bor (List ℕ))) (o : Option (Bor (Bor (List ℕ)) × Bor (List (Bor (List ℕ))))) (m : Option (Result Step Misread)) (Q : Bor (Bor (List ℕ)) × Bor (List (Bor (List ℕ))) → Result Step Misread → Type 0) → MatchOption o (length ss ≡ 0) (λ p. IsFirstAndRest ss p.0.now p.1.now) → MatchOption o (m ≡ None) (λ p. IsSomeAnd m (Q p)) → ((p : Bor (Bor (List ℕ)) × Bor (List (Bor (List ℕ)))) (r : Result Step Misread) → Q p r → r ≡ named p.0.now.now (contents p.1.now)) → option_transpose m ≡ step (contents ss)
+heard ss None m Q e h is = rw (nil_from_length ss e, h) refl
+heard ss (Some p) None Q e h is = absurd h
+heard ss (Some p) (Some r) Q e h is = transposed r ∙ ap (λ r. and_then r (λ s. Ok (Some s))) (is p r h) ∙ sym (ap (λ l. step (contents l)) e.0)

@@ -5,7 +5,7 @@ use std::fmt;
 const LONGEST: usize = 40;
 
 /// Shows printable ASCII as it is and any other byte as `\xNN`, and `..` for the bytes past the longest.
-#[derive(Clone, Copy)]
+#[derive(Clone, Copy, Debug)]
 pub struct Excerpt<'a>(pub &'a [u8]);
 
 impl fmt::Display for Excerpt<'_> {

@@ -130,8 +130,8 @@ pub fn read_step(words: &[&[u8]]) -> Result<Option<Step>, Misread>
     ensures means { Means (contents words.now) result }
     ensures reads { (s : Step) → Spells s (contents words.now) → result ≡ Ok (Some s) }
 {
-    let [word, rest @ ..] = words else {
-        return Ok(None);
-    };
-    Ok(Some(named(word, rest)?))
+    words
+        .split_first()
+        .map(|(word, rest)| named(word, rest))
+        .transpose()
 }

@@ -10,8 +10,7 @@ pub try_fold-requires-clause-callable : goal.try_fold-requires-clause-callable
 try_fold-requires-clause-callable c =
     serves_by _ (λ xs q. Unit {0}) (λ xs q x v j r. tt) _ _ _ _ tt (λ xs t q x u y s j.
     let turn = YieldsList-turn (YieldsList-from_slice c.args.word.now cc) xs t y (Some x) u x refl s in
-    let digit : 48 ≤ x.now = low c.args.word.now (length xs) x.now c.requires turn.0 turn.1 in
-    search rules)
+    search (rules, arith, low))
 
 pub returns : goal.returns
 returns c =
