@@ -20,11 +20,22 @@ pub struct Summary<'a>(pub &'a Filing);
 struct Entry<'a>(&'a Line);
 
 /// The first word of a line that says no step, a tab, and why it says none.
-#[derive(Clone, Copy)]
+#[derive(Clone, Copy, Debug)]
 pub struct Misreading<'a> {
-    pub step: &'a [u8],
-    pub wrong: &'a [u8],
-    pub misread: Misread,
+    step: &'a [u8],
+    wrong: &'a [u8],
+    misread: Misread,
+}
+
+impl<'a> Misreading<'a> {
+    /// The misreading of a line with these words.
+    pub fn of(words: &[&'a [u8]], misread: Misread) -> Misreading<'a> {
+        Misreading {
+            step: word(words, 1).unwrap_or(b""),
+            wrong: word(words, misread.at()).unwrap_or(b""),
+            misread,
+        }
+    }
 }
 
 impl fmt::Display for Entry<'_> {
@@ -76,39 +87,40 @@ impl fmt::Display for Said {
     }
 }
 
-const HEAD: [&str; 7] = ["FACILITY", "YEAR", "CO2", "CH4", "N2O", "SF6", "CAPTURED"];
-
-const LINE: [&str; 7] = [
-    "KIND",
-    "NUMBER",
-    "PRODUCTION",
-    "STANDARD",
-    "ATTRIBUTED",
-    "ADDED",
-    "RATIO",
+/// The steps that have numbers: the word of each, and what the words after it are called.
+// The reader of steps keeps places only: the names are the program's, in its messages and its help.
+const USAGES: &[&[&str]] = &[
+    &[
+        "head", "FACILITY", "YEAR", "CO2", "CH4", "N2O", "SF6", "CAPTURED",
+    ],
+    &[
+        "line",
+        "KIND",
+        "NUMBER",
+        "PRODUCTION",
+        "STANDARD",
+        "ATTRIBUTED",
+        "ADDED",
+        "RATIO",
+    ],
 ];
 
-/// What the word at a place of a step's line is called; the step's own word is at 1.
-fn expected(step: &[u8], at: usize) -> &'static str {
-    let place = at.saturating_sub(2);
-    // The reader of steps keeps places only: the names are the program's, in its messages and its help.
-    let name = match step {
-        b"head" => HEAD.get(place),
-        b"line" => LINE.get(place),
-        _ => None,
-    };
-    name.copied().unwrap_or("a word")
+/// The word at a place, counted from 1.
+pub(crate) fn word<T: Copy>(words: &[T], at: usize) -> Option<T> {
+    words.get(at.checked_sub(1)?).copied()
 }
 
-/// The word at a place, counted from 1, or no bytes.
-pub(crate) fn word<'a>(words: &[&'a [u8]], at: usize) -> &'a [u8] {
-    // Not `checked_sub` and `and_then(|i| words.get(i))`: the borrow checker does not cover what that closure gives.
-    words.get(at.saturating_sub(1)).copied().unwrap_or(b"")
+/// What the word at a place of a step's line is called; the step's own word is at 1.
+fn expected(step: &[u8], at: usize) -> Option<&'static str> {
+    let usage = USAGES.iter().find(|usage| usage
+        .first()
+        .is_some_and(|own| own.as_bytes() == step))?;
+    word(usage, at)
 }
 
 impl fmt::Display for Misreading<'_> {
     fn fmt<W: fmt::Write>(&self, f: &mut fmt::Formatter<W>) -> fmt::Result {
-        let name = expected(self.step, self.misread.at());
+        let name = expected(self.step, self.misread.at()).unwrap_or("a word");
         let shown = Excerpt(self.step);
         let wrong = Excerpt(self.wrong);
         write!(f, "{shown}\tnot understood: ")?;

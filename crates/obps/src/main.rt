@@ -34,9 +34,7 @@ fn standard_input(rt: &HostRuntime) -> Result<Vec<u8>, Failure> {
 
 fn obey(rt: &HostRuntime) -> Result<(), Failure> {
     let words = arguments(rt)?;
-    let [command, operands @ ..] = words.as_slice() else {
-        return Err(Failure::NoCommand);
-    };
+    let (command, operands) = words.split_first().ok_or(Failure::NoCommand)?;
     match (command.as_str(), operands) {
         ("run", []) => run::run(rt, &standard_input(rt)?),
         ("run", [path]) => run::run(rt, &file(rt, path)?),

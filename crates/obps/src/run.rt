@@ -1,104 +1,118 @@
 //! A journal, performed line by line.
 use crate::answers::{Misreading, Said, Summary, word};
 use crate::failures::Failure;
-use codec::reader::read;
-use filing::draft::Draft;
+use codec::record::Record;
 use journal::desk::Desk;
 use journal::excerpt::Excerpt;
 use journal::sources::{is_hex, record_word, unhexed};
 use journal::steps::read_step;
 use journal::words::words;
 use std::alloc::{AllocError, Global};
-use std::fs;
 use std::io::{BufWriter, Write};
+use std::{fmt, fs, io};
 
-/// What one line of a journal is answered, after its number.
-#[derive(Drop)]
-pub(crate) enum Reply {
-    /// The line has no words.
-    Silence,
-    Answer(String),
-    /// The line says no step, and this is why.
-    NotUnderstood(String),
+/// Why a line is not understood.
+#[derive(Debug, Drop)]
+pub(crate) enum NotUnderstood<'a> {
+    Step(Misreading<'a>),
+    FileName(Excerpt<'a>),
+    File(Excerpt<'a>, io::Error),
+    Hex(Excerpt<'a>),
 }
 
-impl Reply {
-    /// What is printed, if anything is.
-    pub(crate) fn text(&self) -> Option<&str> {
+impl fmt::Display for NotUnderstood<'_> {
+    fn fmt<W: fmt::Write>(&self, f: &mut fmt::Formatter<W>) -> fmt::Result {
         match self {
-            Reply::Silence => None,
-            Reply::Answer(text) | Reply::NotUnderstood(text) => Some(text.as_str()),
+            NotUnderstood::Step(misreading) => write!(f, "{misreading}"),
+            NotUnderstood::FileName(word) => {
+                write!(f, "sign\tnot understood: no file name: '{word}'")
+            }
+            NotUnderstood::File(word, error) => {
+                write!(f, "sign\tnot understood: cannot read '{word}': {error}")
+            }
+            NotUnderstood::Hex(word) => {
+                write!(f, "sign\tnot understood: no bytes in hexadecimal: '{word}'")
+            }
         }
+    }
+}
+
+/// Why a line is not answered.
+#[derive(Debug, Drop)]
+pub(crate) enum LineError<'a> {
+    Memory,
+    NotUnderstood(NotUnderstood<'a>),
+}
+
+impl<'a> From<NotUnderstood<'a>> for LineError<'a> {
+    fn from(why: NotUnderstood<'a>) -> LineError<'a> {
+        LineError::NotUnderstood(why)
+    }
+}
+
+impl<'a> From<AllocError> for LineError<'a> {
+    fn from(_error: AllocError) -> LineError<'a> {
+        LineError::Memory
     }
 }
 
 /// The answer to `sign`, where the filing is the record at the front of some bytes.
-fn signed(heap: Global, bytes: &[u8]) -> Result<Reply, AllocError> {
-    let mut signed = Draft::blank().sign();
-    let text = match read(bytes, &mut signed) {
-        Ok((used, version)) => format!(in heap;
+fn signed(heap: Global, bytes: &[u8]) -> Result<String, AllocError> {
+    match Record::read(bytes) {
+        Ok(
+            Record {
+                used,
+                version,
+                signed,
+            },
+        ) => format!(in heap;
             "sign\tsigned version {version} bytes {used} of {} {}",
             bytes.len(),
             Summary(signed.filing())
-        )?,
-        Err(fault) => format!(in heap; "sign\trefused {fault}")?,
-    };
-    Ok(Reply::Answer(text))
+        ),
+        Err(fault) => format!(in heap; "sign\trefused {fault}"),
+    }
 }
 
 /// The answer to `sign` with a file of a record.
-fn signed_file(rt: &HostRuntime, word: &[u8]) -> Result<Reply, AllocError> {
-    let heap = rt.alloc();
-    let shown = Excerpt(word);
-    let Ok(path) = std::str::from_utf8(word) else {
-        let text = format!(in heap; "sign\tnot understood: no file name: '{shown}'")?;
-        return Ok(Reply::NotUnderstood(text));
-    };
-    match fs::read(rt, path) {
-        Ok(bytes) => signed(heap, &bytes),
-        Err(error) => Ok(Reply::NotUnderstood(format!(in heap;
-            "sign\tnot understood: cannot read '{shown}': {error}"
-        )?)),
-    }
+fn signed_file<'a>(rt: &HostRuntime, word: &'a [u8]) -> Result<String, LineError<'a>> {
+    let path = std::str::from_utf8(word).map_err(|_| NotUnderstood::FileName(Excerpt(word)))?;
+    let bytes = fs::read(rt, path).map_err(|error| NotUnderstood::File(Excerpt(word), error))?;
+    Ok(signed(rt.alloc(), &bytes)?)
 }
 
 /// The answer to `sign` with a record in hexadecimal.
-fn signed_hex(heap: Global, word: &[u8]) -> Result<Reply, AllocError> {
-    let Some(bytes) = unhexed(heap, word)? else {
-        let shown = Excerpt(word);
-        let text = format!(in heap; "sign\tnot understood: no bytes in hexadecimal: '{shown}'")?;
-        return Ok(Reply::NotUnderstood(text));
-    };
-    signed(heap, &bytes)
+fn signed_hex<'a>(heap: Global, word: &'a [u8]) -> Result<String, LineError<'a>> {
+    let bytes = unhexed(heap, word)?.ok_or(NotUnderstood::Hex(Excerpt(word)))?;
+    Ok(signed(heap, &bytes)?)
 }
 
-/// What the words of a line are answered: the step's word, a tab, and the answer.
-fn respond(heap: Global, desk: &mut Desk, words: &[&[u8]]) -> Result<Reply, AllocError> {
-    let step = word(words, 1);
-    match read_step(words) {
-        Ok(None) => Ok(Reply::Silence),
-        Ok(Some(asked)) => {
-            let said = Said(desk.perform(asked));
-            Ok(Reply::Answer(format!(in heap; "{}\t{said}", Excerpt(step))?))
-        }
-        Err(misread) => {
-            let wrong = word(words, misread.at());
-            let misreading = Misreading {
-                step,
-                wrong,
-                misread,
-            };
-            Ok(Reply::NotUnderstood(format!(in heap; "{misreading}")?))
-        }
-    }
+/// What the words of a line are answered: the step's word, a tab, and the answer. None where there are no words.
+fn respond<'a>(
+    heap: Global,
+    desk: &mut Desk,
+    words: &[&'a [u8]],
+) -> Result<Option<String>, LineError<'a>> {
+    let asked = read_step(words).map_err(|misread| NotUnderstood::Step(Misreading::of(
+        words, misread,
+    )))?;
+    let text = asked.map(|step| {
+        let said = Said(desk.perform(step));
+        format!(in heap; "{}\t{said}", Excerpt(word(words, 1).unwrap_or(b"")))
+    });
+    Ok(text.transpose()?)
 }
 
-/// The answer to one line.
-pub(crate) fn answer(rt: &HostRuntime, desk: &mut Desk, line: &[u8]) -> Result<Reply, AllocError> {
+/// The answer to one line. None where the line has no words.
+pub(crate) fn answer<'a>(
+    rt: &HostRuntime,
+    desk: &mut Desk,
+    line: &'a [u8],
+) -> Result<Option<String>, LineError<'a>> {
     let found = words(rt.alloc(), line)?;
     match record_word(found.as_slice()) {
-        Some(word) if is_hex(word) => signed_hex(rt.alloc(), word),
-        Some(word) => signed_file(rt, word),
+        Some(word) if is_hex(word) => signed_hex(rt.alloc(), word).map(Some),
+        Some(word) => signed_file(rt, word).map(Some),
         None => respond(rt.alloc(), desk, found.as_slice()),
     }
 }
@@ -109,12 +123,14 @@ pub(crate) fn run(rt: &HostRuntime, text: &[u8]) -> Result<(), Failure> {
     let mut desk = Desk::new();
     let mut misread: u64 = 0;
     for (number, line) in (1u64..).zip(text.split(|byte| *byte == b'\n')) {
-        let reply = answer(rt, &mut desk, line)?;
-        if let Some(text) = reply.text() {
-            writeln!(out, "{number}\t{text}").map_err(Failure::Output)?;
-        }
-        if let Reply::NotUnderstood(_) = reply {
-            misread = misread.saturating_add(1);
+        match answer(rt, &mut desk, line) {
+            Ok(None) => {}
+            Ok(Some(text)) => writeln!(out, "{number}\t{text}").map_err(Failure::Output)?,
+            Err(LineError::NotUnderstood(why)) => {
+                misread = misread.saturating_add(1);
+                writeln!(out, "{number}\t{why}").map_err(Failure::Output)?;
+            }
+            Err(LineError::Memory) => return Err(Failure::Memory),
         }
     }
     out.flush().map_err(Failure::Output)?;
