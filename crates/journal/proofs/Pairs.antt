@@ -1,11 +1,10 @@
 -- The bytes that the decoder of hexadecimal text gives are those of the pairs of digits.
-use Rattle.std.proofs.Common.{◌≡◌, ℕ, ◌+◌, ◌*◌, ◌/◌, ◌%◌, Bool, true, false, ◌==◌, eqb, List, [], ◌∷◌, ◌++◌, length, take, drop, Some, None, Option, Ok, Err, Result, MatchResult, is_ok, sym, refl, ap, ◌∙◌, append_assoc, arith}
-use Rattle.std.specs.Bool.{then_some}
+use Rattle.std.proofs.Common.{◌≡◌, ℕ, ◌+◌, ◌*◌, ◌%◌, true, ◌==◌, eqb, List, [], ◌∷◌, ◌++◌, length, take, drop, Some, None, Option, Ok, Err, Result, sym, refl, ap, ◌∙◌, append_assoc, arith}
 use Rattle.std.specs.Option.{option_map}
-use Rattle.std.proofs.lemmas.Bool.{cond_both, cond-true, eqb-true, eqb-false}
+use Rattle.std.proofs.lemmas.Bool.{cond_both, cond-true, eqb-true}
 use Rattle.hex.specs.declared.error.FromHexError.{FromHexError}
 use lib.Pointwise.{pointwise}
-use Rattle.hex.specs.Hex.{hex_digit_value, value_at, pair_value, decode_pairs, decode_sized, digit_or_error, ◌>>=◌}
+use Rattle.hex.specs.Hex.{hex_digit_value, value_at, pair_value, decode_pairs, decode_of, digit_or_error, ◌>>=◌}
 use Rattle.journal.specs.Sources.{is_hex, hex_digit, both, hex_byte, hex_bytes, unhexed}
 
 abbrev pub decoded : {A : Type 0} → Result A FromHexError → Option A
@@ -54,11 +53,8 @@ odd [] h = absurd (omega arith)
 odd (a ∷ []) h = refl
 odd (a ∷ b ∷ ds) h = ap (both (λ x xs. x ∷ xs) (hex_byte a b)) (odd ds (omega arith)) ∙ none_after _ (hex_byte a b)
 
-sized_are : (ds : List ℕ) (n : ℕ) → n ≡ length ds / 2 → decoded (decode_sized ds n) ≡ hex_bytes ds
-sized_are ds n e =
-    cond_both (length ds % 2 == 1) (Err FromHexError.OddLength) _ (λ r. decoded r ≡ hex_bytes ds)
-    (λ t. sym (odd ds (eqb-true _ _ t)))
-    (λ t. cond_both (length ds / 2 == n) (decode_pairs 0 ds) (Err FromHexError.InvalidStringLength) (λ r. decoded r ≡ hex_bytes ds) (λ u. pairs_are 0 ds) (λ u. absurd (eqb-false _ _ u (sym e))))
+whole_is : (ds : List ℕ) → decoded (decode_of ds) ≡ hex_bytes ds
+whole_is ds = cond_both (length ds % 2 == 1) (Err FromHexError.OddLength) (decode_pairs 0 ds) (λ r. decoded r ≡ hex_bytes ds) (λ t. sym (odd ds (eqb-true _ _ t))) (λ t. pairs_are 0 ds)
 
 prefixed : (w : List ℕ) → pointwise eqb (take 2 w) (48 ∷ 120 ∷ []) ≡ true → is_hex w ≡ true
 prefixed [] h = grind arith
@@ -66,17 +62,8 @@ prefixed (a ∷ []) h = grind arith
 prefixed (a ∷ b ∷ bs) h = grind arith
 
 -- what is decoded of the digits after `0x` is what the word writes
-pub whole : (w ds : List ℕ) (n : ℕ) → pointwise eqb (take 2 w) (48 ∷ 120 ∷ []) ≡ true → ds ≡ drop 2 w → n ≡ length ds / 2 → decoded (decode_sized ds n) ≡ unhexed w
-whole w ds n t e h = sized_are ds n h ∙ ap hex_bytes e ∙ sym (cond-true (is_hex w) (hex_bytes (drop 2 w)) None (prefixed w t))
-
--- what the answer of the decoder says of what it decoded
-pub answered : (d : Result (List ℕ) FromHexError) (r : Result (Unit {0}) FromHexError) (out : List ℕ) → MatchResult d (λ bytes. (r ≡ Ok tt) × (out ≡ bytes)) (λ e. r ≡ Err e) → decoded d ≡ then_some (is_ok r) out
-answered (Ok bytes) r out h = rw (h.0) (ap Some (sym h.1))
-answered (Err e) r out h = rw h refl
-
-pub mapped : {X Y : Type 0} (f : X → Y) (b : Bool) (x : X) → option_map f (then_some b x) ≡ then_some b (f x)
-mapped f true x = refl
-mapped f false x = refl
+pub whole : (w ds : List ℕ) (r : Result (List ℕ) FromHexError) → pointwise eqb (take 2 w) (48 ∷ 120 ∷ []) ≡ true → ds ≡ drop 2 w → decode_of ds ≡ r → decoded r ≡ unhexed w
+whole w ds r t e h = ap decoded (sym h) ∙ whole_is ds ∙ ap hex_bytes e ∙ sym (cond-true (is_hex w) (hex_bytes (drop 2 w)) None (prefixed w t))
 
 -- the bytes that are done, before those of the digits to come
 abbrev pub joined : List ℕ → Option (List ℕ) → Option (List ℕ)

@@ -4,6 +4,7 @@ ghost use Rattle.std.specs.Option.{option_map};
 ghost use Rattle.journal.specs.Words.{contents};
 ghost use Rattle.journal.specs.Sources.{record_word, is_hex, unhexed as unhexed_of, Sized};
 
+use hex::FromHexError;
 use std::alloc::{AllocError, Global};
 
 /// The second word of a line that is exactly `sign` and one more word.
@@ -32,7 +33,9 @@ pub fn unhexed(heap: Global, word: &[u8]) -> Result<Option<Vec<u8>>, AllocError>
     let Some(digits) = word.strip_prefix(b"0x") else {
         return Ok(None);
     };
-    let mut bytes = vec![in heap; 0; digits.len() / 2]?;
-    let decoded = hex::decode_to_slice(digits, &mut bytes).is_ok();
-    Ok(decoded.then_some(bytes))
+    match hex::decode(heap, digits) {
+        Ok(bytes) => Ok(Some(bytes)),
+        Err(FromHexError::OutOfMemory) => Err(AllocError),
+        Err(_) => Ok(None),
+    }
 }

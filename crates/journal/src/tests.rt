@@ -30,7 +30,7 @@ fn texts(rt: HostRuntime) -> Result<(), Fail> {
 
 #[test]
 fn numerals(rt: HostRuntime) {
-    let words: [(&[u8], Result<u64, NumberFault>); 7] = [
+    let words: [(&[u8], Result<u64, NumberFault>); 8] = [
         (b"0", Ok(0)),
         (b"007", Ok(7)),
         (b"18446744073709551615", Ok(u64::MAX)),
@@ -38,6 +38,7 @@ fn numerals(rt: HostRuntime) {
         (b"", Err(NumberFault::NoNumber)),
         (b"1x", Err(NumberFault::NoNumber)),
         (b"+1", Err(NumberFault::NoNumber)),
+        (b"18446744073709551616x", Err(NumberFault::NoNumber)),
     ];
     for (word, expected) in words {
         assert_eq!(rt; decimal(word), expected);
