@@ -112,9 +112,7 @@ pub(crate) fn word<T: Copy>(words: &[T], at: usize) -> Option<T> {
 
 /// What the word at a place of a step's line is called; the step's own word is at 1.
 fn expected(step: &[u8], at: usize) -> Option<&'static str> {
-    let usage = USAGES.iter().find(|usage| usage
-        .first()
-        .is_some_and(|own| own.as_bytes() == step))?;
+    let usage = USAGES.iter().find(|usage| matches!(usage, [own, ..] if own.as_bytes() == step))?;
     word(usage, at)
 }
 

@@ -59,16 +59,12 @@ impl<'a> From<AllocError> for LineError<'a> {
 /// The answer to `sign`, where the filing is the record at the front of some bytes.
 fn signed(heap: Global, bytes: &[u8]) -> Result<String, AllocError> {
     match Record::read(bytes) {
-        Ok(
-            Record {
-                used,
-                version,
-                signed,
-            },
-        ) => format!(in heap;
-            "sign\tsigned version {version} bytes {used} of {} {}",
+        Ok(record) => format!(in heap;
+            "sign\tsigned version {} bytes {} of {} {}",
+            record.version,
+            record.used,
             bytes.len(),
-            Summary(signed.filing())
+            Summary(record.signed.filing())
         ),
         Err(fault) => format!(in heap; "sign\trefused {fault}"),
     }
@@ -93,9 +89,9 @@ fn respond<'a>(
     desk: &mut Desk,
     words: &[&'a [u8]],
 ) -> Result<Option<String>, LineError<'a>> {
-    let asked = read_step(words).map_err(|misread| NotUnderstood::Step(Misreading::of(
-        words, misread,
-    )))?;
+    let asked = read_step(words)
+        .map_err(|misread| Misreading::of(words, misread))
+        .map_err(NotUnderstood::Step)?;
     let text = asked.map(|step| {
         let said = Said(desk.perform(step));
         format!(in heap; "{}\t{said}", Excerpt(word(words, 1).unwrap_or(b"")))
