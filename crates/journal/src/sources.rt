@@ -33,6 +33,7 @@ pub fn unhexed(heap: Global, word: &[u8]) -> Result<Option<Vec<u8>>, AllocError>
     let Some(digits) = word.strip_prefix(b"0x") else {
         return Ok(None);
     };
+    // Of the decoder's errors only a want of memory is one here, and `hex` has no `From` that tells it apart.
     match hex::decode(heap, digits) {
         Ok(bytes) => Ok(Some(bytes)),
         Err(FromHexError::OutOfMemory) => Err(AllocError),
