@@ -1,5 +1,5 @@
 -- How a call on a facility and year is answered, from what was found there.
-use Rattle.std.proofs.Common.{◌≡◌, ℕ, ◌+◌, ◌-◌, ◌≤◌, Bool, true, false, not, ◌&&◌, leb, List, [], ◌∷◌, get_or, is_some, Some, None, Option, Result, sym, refl, ap, ◌∙◌, subst, ⊎_elim, arith}
+use Rattle.std.proofs.Common.{◌≡◌, ℕ, ◌+◌, ◌-◌, ◌≤◌, Bool, true, false, not, ◌&&◌, leb, List, [], ◌∷◌, get_or, is_some, Some, None, Option, Result, sym, refl, ap, ◌∙◌, ⊎_elim, arith}
 use Rattle.std.proofs.lemmas.List.{get_or_default}
 use Rattle.std.proofs.lemmas.Bool.{cases_Bool, and_parts, and_from, le-leb, leb-true, cond-true, cond-false}
 use Rattle.filing.specs.Filing.{FilingFields}
@@ -8,16 +8,17 @@ use Rattle.enrolment.specs.Ranges.{between}
 use Rattle.enrolment.specs.declared.enrolment.Enrolment.{Enrolment}
 use Rattle.limit.specs.Laws.{Meaning, Later}
 use Rattle.standard.specs.Places.{Places, filing_at, standing}
-use Rattle.register.specs.Acceptance.{Check, first_of, checks, unknown, stands, vacant, book_full, spent, refusal_of, accepted}
+use Rattle.register.specs.Acceptance.{Check, first_of, checks, unknown, book_full, spent, refusal_of, accepted}
 use Rattle.register.specs.Answers.{refused, numbered, granted, answer_by, answer_to, number_answer}
-use Rattle.register.specs.Calls.{CallFields, file, amend, withdraw, Act, filing_act, Event, acts, event_of}
+use Rattle.register.specs.Calls.{CallFields, file, amend, withdraw, Act, filing_act, withdrawal, Event, acts, event_of}
 use Rattle.register.specs.History.{standing_at, places_of, enrolment_of, numbers}
 use Rattle.register.specs.Lived.{Holds, Lived, Lives}
 use Rattle.register.specs.Refusals.{refusal_told}
 use Rattle.register.specs.Steps.{EnrolledBy, Absent, StandsAt, Acted}
 use Rattle.register.specs.Views.{blank_plant}
+use Rattle.register.specs.declared.places.Place.{Place}
 use Rattle.register.specs.declared.refusals.Refusal.{Refusal}
-use Rattle.register.specs.declared.refusals.Refusal.TheVariants.{Unknown}
+use Rattle.register.specs.declared.refusals.Refusal.TheVariants.{Unknown, Stands, Vacant}
 use Rattle.register.specs.declared.table.Plant.{Plant}
 use Rattle.register.specs.declared.table.Register.{Register}
 use Rattle.register.proofs.Deeds.{acted_lives}
@@ -85,61 +86,76 @@ module _ {M : Type 0} (μ : M → Meaning) (m : M) (r : Register M) (es : List E
 pub stands_same : {M : Type 0} (r : Register M) (f y : ℕ) (p q : Option Signed) → StandsAt r f y p → p ≡ q → StandsAt r f y q
 stands_same r f y p q stands same d d-is = sym (ap filing_at same) ∙ stands d d-is
 
--- a call that asks first for the enrolment of f, and then for one thing more
-module _ {M : Type 0} (μ : M → Meaning) (m : M) (r : Register M) (c : CallFields) (cs : List CallFields) (L : Lived μ m r cs) (f : ℕ) (second : Check) (asks : checks c (accepted cs) ≡ unknown (accepted cs) f ∷ second ∷ book_full (accepted cs) ∷ spent (accepted cs) ∷ []) where
-  answered_refused : (w : Refusal) → refusal_of c (accepted cs) ≡ Some w → Lived μ m r (c ∷ cs) × (refused (refusal_told w) ≡ answer_to (μ m) c cs)
-  answered_refused w why = (refused_lives μ m r c cs w why L, sym (ap (λ o. answer_by o (granted (μ m) c (accepted cs))) why))
+-- a call that acts on a place: it asks for the enrolment of the facility, whether something stands, and then for room
+pub record ActsOn (c : CallFields) (a : Act) (bars : Bool → Bool) (w : Refusal) : Type 0 where
+  pub does : event_of c ≡ Some (acts a)
+  pub asks : (es : List Event) → checks c es ≡ unknown es a.facility ∷ (bars (is_some (standing_at es a.facility a.year)), w) ∷ book_full es ∷ spent es ∷ []
+  pub grants : (meaning : Meaning) (es : List Event) → granted meaning c es ≡ numbered (numbers es + 1)
 
-  pub asked_unknown : Absent r f → Lived μ m r (c ∷ cs) × (refused (refusal_told Unknown) ≡ answer_to (μ m) c cs)
+module _ {M : Type 0} (μ : M → Meaning) (r : Register M) {c : CallFields} {a : Act} {bars : Bool → Bool} {w : Refusal} (on : ActsOn c a bars w) where
+  answered_refused : (v : Refusal) → ((m : M) (cs : List CallFields) → Lived μ m r cs → refusal_of c (accepted cs) ≡ Some v) → Lives μ r r c (λ m cs. refused (refusal_told v) ≡ answer_to (μ m) c cs)
+  answered_refused v why m cs L =
+      (refused_lives μ m r c cs v (why m cs L) L, sym (ap (λ o. answer_by o (granted (μ m) c (accepted cs))) (why m cs L)))
+
+  abbrev second : List Event → Check
+  second es = (bars (is_some (standing_at es a.facility a.year)), w)
+
+  pub asked_unknown : Absent r a.facility → Lives μ r r c (λ m cs. refused (refusal_told Unknown) ≡ answer_to (μ m) c cs)
   asked_unknown absent =
       answered_refused Unknown
-      (ap first_of asks ∙ check_holds (unknown (accepted cs) f) (second ∷ book_full (accepted cs) ∷ spent (accepted cs) ∷ []) (ap (λ o. not (is_some o)) (absent_none μ m r (accepted cs) L f absent)))
+      (λ m cs L.
+      let es = accepted cs in
+      ap first_of (on.asks es) ∙ check_holds (unknown es a.facility) (second es ∷ book_full es ∷ spent es ∷ []) (ap (λ o. not (is_some o)) (absent_none μ m r es L a.facility absent)))
 
-  module _ (known : is_some (enrolment_of (accepted cs) f) ≡ true) where
-    passed : refusal_of c (accepted cs) ≡ first_of (second ∷ book_full (accepted cs) ∷ spent (accepted cs) ∷ [])
-    passed = ap first_of asks ∙ check_passes (unknown (accepted cs) f) (second ∷ book_full (accepted cs) ∷ spent (accepted cs) ∷ []) (ap not known)
+  module _ (e : Enrolment) (by : EnrolledBy r a.facility e) where
+    passed : (m : M) (cs : List CallFields) → Lived μ m r cs → refusal_of c (accepted cs) ≡ first_of (second (accepted cs) ∷ book_full (accepted cs) ∷ spent (accepted cs) ∷ [])
+    passed m cs L =
+        let es = accepted cs in
+        ap first_of (on.asks es) ∙ check_passes (unknown es a.facility) (second es ∷ book_full es ∷ spent es ∷ []) (ap not (by_enrolled μ m r es L a.facility e by))
 
-    pub asked_second : second.0 ≡ true → Lived μ m r (c ∷ cs) × (refused (refusal_told second.1) ≡ answer_to (μ m) c cs)
-    asked_second holds = answered_refused second.1 (passed ∙ check_holds second (book_full (accepted cs) ∷ spent (accepted cs) ∷ []) holds)
+    asked_second : (b : Bool) → bars b ≡ true → ((m : M) (cs : List CallFields) → Lived μ m r cs → is_some (standing_at (accepted cs) a.facility a.year) ≡ b) → Lives μ r r c (λ m cs. refused (refusal_told w) ≡ answer_to (μ m) c cs)
+    asked_second b barred is =
+        answered_refused w
+        (λ m cs L. let es = accepted cs in passed m cs L ∙ check_holds (second es) (book_full es ∷ spent es ∷ []) (ap bars (is m cs L) ∙ barred))
 
-    pub asked_passes : second.0 ≡ false → refusal_of c (accepted cs) ≡ first_of (book_full (accepted cs) ∷ spent (accepted cs) ∷ [])
-    asked_passes fails = passed ∙ check_passes second (book_full (accepted cs) ∷ spent (accepted cs) ∷ []) fails
+    -- there is no such place
+    pub asked_nowhere : bars false ≡ true → (between 1 4 a.facility ≡ true → between 2017 2036 a.year ≡ false) → Lives μ r r c (λ m cs. refused (refusal_told w) ≡ answer_to (μ m) c cs)
+    asked_nowhere barred out = asked_second false barred (λ m cs L. no_place μ m r (accepted cs) L a.facility e by a.year out)
 
--- an act that nothing refuses but the undo log and the numbers
-module _ {M : Type 0} (μ : M → Meaning) (later : (m : M) → Later (μ m)) (m : M) (r s : Register M) (c : CallFields) (cs : List CallFields) (L : Lived μ m r cs) (a : Act) (does : event_of c ≡ Some (acts a)) (grants : granted (μ m) c (accepted cs) ≡ numbered (numbers (accepted cs) + 1)) (second : Check) (asks : checks c (accepted cs) ≡ unknown (accepted cs) a.facility ∷ second ∷ book_full (accepted cs) ∷ spent (accepted cs) ∷ []) (e : Enrolment) (by : EnrolledBy r a.facility e) (old v : Option Signed) (old-is : StandsAt r a.facility a.year old) (low : 2017 ≤ a.year) (high : a.year ≤ 2036) (passes : second.0 ≡ false) (v-is : filing_at v ≡ a.leaves) where
-  pub asked_acts : (ans : Result ℕ Refusal) → Acted μ r s a.facility a.year e old v ans → Lived μ m s (c ∷ cs) × (number_answer ans ≡ answer_to (μ m) c cs)
-  asked_acts ans did =
-      let read = by_read μ m r (accepted cs) L a.facility e by in
-      let known = by_enrolled μ m r (accepted cs) L a.facility e by in
-      let d = plant_at μ m r (accepted cs) L a.facility in
-      let done =
-      acted_lives μ later m r s a by.low by.high low high d read e (by.enrolment d read) old v v-is c cs L does
-      (asked_passes μ m r c cs L a.facility second asks known passes)
-      (read_stands μ m r (accepted cs) L a.facility e by a.year old old-is) ans did
-      in
-      (done.0, done.1 ∙ sym (ap (answer_by (refusal_of c (accepted cs))) grants))
+    module _ (p : Option Signed) (stands : StandsAt r a.facility a.year p) where
+      as_read : (m : M) (cs : List CallFields) → Lived μ m r cs → is_some (standing_at (accepted cs) a.facility a.year) ≡ is_some p
+      as_read m cs L = stands_as_read μ m r (accepted cs) L a.facility e by a.year p stands (is_some p) refl
 
--- a filing for the facility f and the year y
-module _ (x : FilingFields) (f y : ℕ) (f-is : f ≡ x.head.facility) (y-is : y ≡ x.head.year) where
+      -- what stands there, or that nothing does, bars the call
+      pub asked_barred : bars (is_some p) ≡ true → Lives μ r r c (λ m cs. refused (refusal_told w) ≡ answer_to (μ m) c cs)
+      asked_barred barred = asked_second (is_some p) barred as_read
+
+      -- nothing refuses the act but the undo log and the numbers
+      pub asked_acts : ((m : M) → Later (μ m)) → (s : Register M) → 2017 ≤ a.year → a.year ≤ 2036 → bars (is_some p) ≡ false → (v : Option Signed) → filing_at v ≡ a.leaves → (ans : Result ℕ Refusal) → Acted μ r s a.facility a.year e p v ans → Lives μ r s c (λ m cs. number_answer ans ≡ answer_to (μ m) c cs)
+      asked_acts later s low high free v v-is ans did m cs L =
+          let es = accepted cs in
+          let d = plant_at μ m r es L a.facility in
+          let read = by_read μ m r es L a.facility e by in
+          let left = passed m cs L ∙ check_passes (second es) (book_full es ∷ spent es ∷ []) (ap bars (as_read m cs L) ∙ free) in
+          let done = acted_lives μ later m r s a by.low by.high low high d read e (by.enrolment d read) p v v-is c cs L on.does left (read_stands μ m r es L a.facility e by a.year p stands) ans did in
+          (done.0, done.1 ∙ sym (ap (answer_by (refusal_of c es)) (on.grants (μ m) es)))
+
+-- a filing, at the place that it is for
+abbrev pub IsFor : FilingFields → Place → Type 0
+IsFor x p = (p.facility ≡ x.head.facility) × (p.year ≡ x.head.year)
+
+module _ (x : FilingFields) (p : Place) (p-is : IsFor x p) where
   abbrev pub act_of : Act
-  act_of = record { facility = f; year = y; leaves = Some x }
+  act_of = record { facility = p.facility; year = p.year; leaves = Some x }
 
-  pub filing_does : Some (acts (filing_act x)) ≡ Some (acts act_of)
-  filing_does =
-      ap (λ (g : ℕ). Some (acts (record { facility = g; year = x.head.year; leaves = Some x }))) (sym f-is)
-      ∙ ap (λ (z : ℕ). Some (acts (record { facility = f; year = z; leaves = Some x }))) (sym y-is)
+  filing_does : filing_act x ≡ act_of
+  filing_does = rw (p-is.0, p-is.1) refl
 
-  pub file_asks : (es : List Event) → checks (file x) es ≡ unknown es f ∷ stands es f y ∷ book_full es ∷ spent es ∷ []
-  file_asks es =
-      ap (λ (g : ℕ). unknown es g ∷ stands es g x.head.year ∷ book_full es ∷ spent es ∷ []) (sym f-is)
-      ∙ ap (λ (z : ℕ). unknown es f ∷ stands es f z ∷ book_full es ∷ spent es ∷ []) (sym y-is)
+  pub file_acts : ActsOn (file x) act_of (λ b. b) Stands
+  file_acts = record { does = ap (λ a. Some (acts a)) filing_does; asks = λ es. rw (p-is.0, p-is.1) refl; grants = λ meaning es. refl }
 
-  pub amend_asks : (es : List Event) → checks (amend x) es ≡ unknown es f ∷ vacant es f y ∷ book_full es ∷ spent es ∷ []
-  amend_asks es =
-      ap (λ (g : ℕ). unknown es g ∷ vacant es g x.head.year ∷ book_full es ∷ spent es ∷ []) (sym f-is)
-      ∙ ap (λ (z : ℕ). unknown es f ∷ vacant es f z ∷ book_full es ∷ spent es ∷ []) (sym y-is)
+  pub amend_acts : ActsOn (amend x) act_of not Vacant
+  amend_acts = record { does = ap (λ a. Some (acts a)) filing_does; asks = λ es. rw (p-is.0, p-is.1) refl; grants = λ meaning es. refl }
 
--- a withdrawal at the place of its facility and year
-pub withdrawn_at : {M : Type 0} (μ : M → Meaning) (r s : Register M) (f y g z : ℕ) (ans : Result ℕ Refusal) → g ≡ f → z ≡ y → Lives μ r s (withdraw g z) (λ m cs. number_answer ans ≡ answer_to (μ m) (withdraw g z) cs) → Lives μ r s (withdraw f y) (λ m cs. number_answer ans ≡ answer_to (μ m) (withdraw f y) cs)
-withdrawn_at μ r s f y g z ans g-is z-is lives =
-    subst (λ (c : CallFields). Lives μ r s c (λ m cs. number_answer ans ≡ answer_to (μ m) c cs)) (ap (λ (i : ℕ). withdraw i z) g-is ∙ ap (withdraw f) z-is) lives
+pub withdraw_acts : (f y : ℕ) → ActsOn (withdraw f y) (withdrawal f y) not Vacant
+withdraw_acts f y = record { does = refl; asks = λ es. refl; grants = λ meaning es. refl }

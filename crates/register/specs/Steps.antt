@@ -7,6 +7,8 @@ use Rattle.enrolment.specs.declared.enrolment.Enrolment.{Enrolment}
 use Rattle.limit.specs.Laws.{Meaning}
 use Rattle.standard.specs.Places.{filing_at, filings, standing}
 use Rattle.register.specs.Views.{assessment_fields, anew, logged}
+use Rattle.register.specs.declared.places.EnrolledPlace.{EnrolledPlace}
+use Rattle.register.specs.declared.places.Place.{Place}
 use Rattle.register.specs.declared.refusals.Refusal.{Refusal}
 use Rattle.register.specs.declared.refusals.Refusal.TheVariants.{Unknown, Enrolled, Enrolment as BadEnrolment, Stands, Vacant, Book, Bare, Spent}
 use Rattle.register.specs.declared.table.Plant.{Plant}
@@ -74,6 +76,10 @@ Absent r f = 1 ≤ f → f ≤ 4 → (d : Plant) → d ≡ slice_index_or r.plan
 
 abbrev pub Sought : {M : Type 0} → Register M → ℕ → Result Enrolment Refusal → Type 0
 Sought r f ans = MatchResult ans (EnrolledBy r f) (λ w. (w ≡ Unknown) × Absent r f)
+
+-- the place p, with the enrolment of its facility
+abbrev pub SoughtAt : {M : Type 0} → Register M → Place → Result EnrolledPlace Refusal → Type 0
+SoughtAt r p ans = MatchResult ans (λ at. (at.place ≡ p) × EnrolledBy r at.place.facility at.enrolment) (λ w. (w ≡ Unknown) × Absent r p.facility)
 
 -- p stands at the place of the facility f and the year y; a year without a place has nothing
 abbrev pub StandsAt : {M : Type 0} → Register M → ℕ → ℕ → Option Signed → Type 0

@@ -6,11 +6,12 @@ ghost use Rattle.register.specs.Calls.{enrol as enrol_call, file as file_call, a
 ghost use Rattle.register.specs.Lived.{Lived, Lives};
 
 use crate::log::UndoLog;
-use crate::places::Place;
+use crate::places::{EnrolledPlace, Place, facility_index};
 use crate::refusals::Refusal;
 use crate::table::{Plant, Register};
 use enrolment::enrolment::Enrolment;
 use enrolment::fields::EnrolmentFields;
+use filing::places::{FACILITIES, YEARS};
 use filing::signed::Signed;
 use limit::method::LimitMethod;
 use std::alloc::{AllocError, Global};
@@ -22,7 +23,7 @@ impl<M: LimitMethod> Register<M> {
         ensures refused { OnErr result (self.new ≡ self.old) }
     {
         let enrolment = Enrolment::try_from(fields)?;
-        let i = (enrolment.facility - 1) as usize;
+        let i = facility_index(u64::from(enrolment.facility));
         if self.plants[i].enrolment.is_some() {
             return Err(Refusal::Enrolled);
         }
@@ -35,12 +36,11 @@ impl<M: LimitMethod> Register<M> {
         ensures lives { Lives M.LimitMethod.meaning self.old self.new (file_call (filed signed)) (λ m cs. number_answer result ≡ answer_to (M.LimitMethod.meaning m) (file_call (filed signed)) cs) }
         ensures refused { OnErr result (self.new ≡ self.old) }
     {
-        let place = Place::from(&signed);
-        let enrolment = self.enrolment_of(place.facility)?;
-        if self.standing(place).is_some() {
+        let at = self.enrolled(Place::from(&signed))?;
+        if self.standing(at.place).is_some() {
             return Err(Refusal::Stands);
         }
-        self.act(place, &enrolment, None, Some(signed))
+        self.act(at, None, Some(signed))
     }
 
     /// Files in the place of what stands.
@@ -48,10 +48,9 @@ impl<M: LimitMethod> Register<M> {
         ensures lives { Lives M.LimitMethod.meaning self.old self.new (amend_call (filed signed)) (λ m cs. number_answer result ≡ answer_to (M.LimitMethod.meaning m) (amend_call (filed signed)) cs) }
         ensures refused { OnErr result (self.new ≡ self.old) }
     {
-        let place = Place::from(&signed);
-        let enrolment = self.enrolment_of(place.facility)?;
-        let before = self.standing(place).ok_or(Refusal::Vacant)?;
-        self.act(place, &enrolment, Some(before), Some(signed))
+        let at = self.enrolled(Place::from(&signed))?;
+        let before = self.standing(at.place).ok_or(Refusal::Vacant)?;
+        self.act(at, Some(before), Some(signed))
     }
 
     /// Empties a place where a filing stands.
@@ -62,7 +61,7 @@ impl<M: LimitMethod> Register<M> {
         let enrolment = self.enrolment_of(facility)?;
         let place = Place::new(facility, year).ok_or(Refusal::Vacant)?;
         let before = self.standing(place).ok_or(Refusal::Vacant)?;
-        self.act(place, &enrolment, Some(before), None)
+        self.act(EnrolledPlace { place, enrolment }, Some(before), None)
     }
 
     /// Undoes the latest act of the undo log.
@@ -74,9 +73,9 @@ impl<M: LimitMethod> Register<M> {
         let number = self.next_number()?;
         // The facility of an act is enrolled, so no history is refused here. An invariant of the register that said
         // so would leave an `unwrap` in place of the `?`, and ask for the enrolment at every act.
-        let enrolment = self.enrolment_of(entry.place.facility)?;
+        let at = self.enrolled(entry.place)?;
         self.log.strike();
-        self.put(entry.place, &enrolment, entry.before, number);
+        self.put(at, entry.before, number);
         Ok(number)
     }
 
@@ -96,12 +95,12 @@ impl<M: LimitMethod + Drop> Register<M> {
         let log = UndoLog::new(heap)?;
         let blank = Plant {
             enrolment: None,
-            places: [None; 20],
-            assessed: [None; 20],
+            places: [None; YEARS],
+            assessed: [None; YEARS],
         };
         Ok(Register {
             method,
-            plants: [blank; 4],
+            plants: [blank; FACILITIES as usize],
             log,
             used: 0,
         })

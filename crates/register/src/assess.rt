@@ -9,13 +9,14 @@ ghost use Rattle.standard.specs.Places.{filings, standing};
 ghost use Rattle.register.specs.Answers.{assessment};
 ghost use Rattle.register.specs.Views.{assessment_fields, anew_of, anew};
 
+use crate::places::year_index;
 use crate::table::Assessment;
 use filing::filing::Filing;
+use filing::places::{LAST_YEAR, YEARS};
 use limit::balance::balance;
 use limit::method::LimitMethod;
 use limit::outcome::Outcome;
 use standard::facility::FacilityYear;
-use standard::places::FIRST_YEAR;
 
 /// The assessment of a filing by its outcome.
 fn assessment_of(filing: &Filing, outcome: Outcome, number: u64) -> Assessment
@@ -34,6 +35,7 @@ fn assessment_of(filing: &Filing, outcome: Outcome, number: u64) -> Assessment
 fn fresh<M: LimitMethod>(method: &M, at: FacilityYear<'_>, number: u64) -> Option<Assessment>
     ensures { option_map assessment_fields result ≡ anew_of (M.LimitMethod.meaning method.now) (enrolled at.entry.enrolment.now) (filings at.entry.places.now) at.entry.year number (standing (filings at.entry.places.now) at.entry.year) }
 {
+    // No `map`: its closure would need a contract of its own, since it calls a method.
     let filing = at.filing()?;
     Some(assessment_of(filing, method.outcome(at), number))
 }
@@ -42,16 +44,14 @@ fn fresh<M: LimitMethod>(method: &M, at: FacilityYear<'_>, number: u64) -> Optio
 pub(crate) fn reassess<M: LimitMethod>(
     method: &M,
     at: FacilityYear<'_>,
-    assessed: &mut [Option<Assessment>; 20],
+    assessed: &mut [Option<Assessment>; YEARS],
     number: u64,
 )
+    requires { 2017 ≤ at.year }
     ensures before { (k : ℕ) → 2017 + k < at.entry.year → slice_index_or assessed.new k none ≡ slice_index_or assessed.old k none }
     ensures after { (k : ℕ) → at.entry.year ≤ 2017 + k → k < 20 → option_map assessment_fields (slice_index_or assessed.new k none) ≡ anew (M.LimitMethod.meaning method.now) (enrolled at.entry.enrolment.now) (filings at.entry.places.now) k number }
 {
-    for (i, slot) in assessed.iter_mut().enumerate() {
-        let year = FIRST_YEAR + i as u64;
-        if year >= at.year {
-            *slot = fresh(method, FacilityYear { year, ..at }, number);
-        }
+    for year in at.year..=LAST_YEAR {
+        assessed[year_index(year)] = fresh(method, FacilityYear { year, ..at }, number);
     }
 }

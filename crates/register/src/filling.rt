@@ -4,10 +4,9 @@ ghost use Rattle.register.specs.Steps.{Put, Acted, Refilled, NextNumber};
 
 use crate::assess::reassess;
 use crate::log::{Entry, MOST_ACTS};
-use crate::places::Place;
+use crate::places::{EnrolledPlace, facility_index, year_index};
 use crate::refusals::Refusal;
 use crate::table::{Plant, Register};
-use enrolment::enrolment::Enrolment;
 use filing::signed::Signed;
 use limit::method::LimitMethod;
 use standard::facility::FacilityYear;
@@ -20,20 +19,19 @@ impl Plant {
     fn refill<M: LimitMethod>(
         &mut self,
         method: &M,
-        enrolment: &Enrolment,
-        place: Place,
+        at: &EnrolledPlace,
         content: Option<Signed>,
         number: u64,
     )
-        ensures { Refilled (M.LimitMethod.meaning method.now) self.old self.new (place.year - 2017) enrolment.now content number }
+        ensures { Refilled (M.LimitMethod.meaning method.now) self.old self.new (at.now.place.year - 2017) at.now.enrolment content number }
     {
-        self.places[place.year_index()] = content;
-        let at = FacilityYear {
-            enrolment,
+        self.places[year_index(at.place.year)] = content;
+        let from = FacilityYear {
+            enrolment: &at.enrolment,
             places: &self.places,
-            year: place.year,
+            year: at.place.year,
         };
-        reassess(method, at, &mut self.assessed, number);
+        reassess(method, from, &mut self.assessed, number);
     }
 }
 
@@ -49,37 +47,33 @@ impl<M: LimitMethod> Register<M> {
         Ok(number)
     }
 
-    /// Puts the content into a place of an enrolled facility with a number, and assesses from that year on.
-    pub(crate) fn put(
-        &mut self,
-        place: Place,
-        enrolment: &Enrolment,
-        content: Option<Signed>,
-        number: u64,
-    )
-        ensures { Put M.LimitMethod.meaning self.old self.new place.facility place.year enrolment.now content number }
+    /// Puts the content into the place of an enrolled facility with a number, and assesses from that year on.
+    pub(crate) fn put(&mut self, at: EnrolledPlace, content: Option<Signed>, number: u64)
+        ensures { Put M.LimitMethod.meaning self.old self.new at.place.facility at.place.year at.enrolment content number }
     {
-        let f = place.facility_index();
-        self.plants[f].refill(&self.method, enrolment, place, content, number);
+        let f = facility_index(at.place.facility);
+        self.plants[f].refill(&self.method, &at, content, number);
         self.used = number;
     }
 
     /// An act on a place that holds `before`: into the undo log, and then into the table.
     pub(crate) fn act(
         &mut self,
-        place: Place,
-        enrolment: &Enrolment,
+        at: EnrolledPlace,
         before: Option<Signed>,
         content: Option<Signed>,
     ) -> Result<u64, Refusal>
-        ensures { Acted M.LimitMethod.meaning self.old self.new place.facility place.year enrolment.now before content result }
+        ensures { Acted M.LimitMethod.meaning self.old self.new at.place.facility at.place.year at.enrolment before content result }
     {
         if self.log.len() >= MOST_ACTS {
             return Err(Refusal::Book);
         }
         let number = self.next_number()?;
-        self.log.write(Entry { place, before });
-        self.put(place, enrolment, content, number);
+        self.log.write(Entry {
+            place: at.place,
+            before,
+        });
+        self.put(at, content, number);
         Ok(number)
     }
 }

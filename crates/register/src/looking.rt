@@ -5,13 +5,14 @@ ghost use Rattle.register.specs.Answers.{answer_to};
 ghost use Rattle.register.specs.Calls.{CallFields, look_up};
 ghost use Rattle.register.specs.Lived.{Lived};
 ghost use Rattle.register.specs.declared.refusals.Refusal.TheVariants.{Unknown};
-ghost use Rattle.register.specs.Steps.{Sought, StandsAt};
+ghost use Rattle.register.specs.Steps.{Sought, SoughtAt, StandsAt};
 ghost use Rattle.register.specs.Views.{shown_at, Looked, look_answer};
 
-use crate::places::{FACILITIES, Place};
+use crate::places::{EnrolledPlace, Place, facility_index};
 use crate::refusals::Refusal;
 use crate::table::{Assessment, Plant, Register};
 use enrolment::enrolment::Enrolment;
+use filing::places::FACILITIES;
 use filing::signed::Signed;
 use limit::method::LimitMethod;
 use standard::places::at_year;
@@ -24,7 +25,7 @@ impl<M: LimitMethod> Register<M> {
         if !(1..=FACILITIES).contains(&facility) {
             return Err(Refusal::Unknown);
         }
-        Ok(&self.plants[(facility - 1) as usize])
+        Ok(&self.plants[facility_index(facility)])
     }
 
     /// The enrolment of a facility, which may be any number.
@@ -34,11 +35,19 @@ impl<M: LimitMethod> Register<M> {
         self.plant_of(facility)?.enrolment.ok_or(Refusal::Unknown)
     }
 
+    /// A place with the enrolment of its facility.
+    pub(crate) fn enrolled(&self, place: Place) -> Result<EnrolledPlace, Refusal>
+        ensures { SoughtAt self.now place result }
+    {
+        let enrolment = self.enrolment_of(place.facility)?;
+        Ok(EnrolledPlace { place, enrolment })
+    }
+
     /// What stands at a place.
     pub(crate) fn standing(&self, place: Place) -> Option<Signed>
         ensures { StandsAt self.now place.facility place.year result }
     {
-        at_year(&self.plants[place.facility_index()].places, place.year).copied()
+        at_year(&self.plants[facility_index(place.facility)].places, place.year).copied()
     }
 
     /// The assessment of a facility and year.

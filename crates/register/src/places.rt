@@ -3,14 +3,27 @@ ghost use Rattle.std.specs.Prelude.{◌≡◌, ◌-◌, ◌<◌, ◌≤◌, true
 ghost use Rattle.filing.specs.Views.{filed};
 ghost use Rattle.enrolment.specs.Ranges.{between};
 
+use enrolment::enrolment::Enrolment;
+use filing::places::{FACILITIES, FIRST_YEAR, LAST_YEAR};
 use filing::signed::Signed;
-use standard::places::FIRST_YEAR;
 
-/// How many facilities there are.
-pub(crate) const FACILITIES: u64 = 4;
+/// Where one of the four facilities stands among them.
+pub(crate) fn facility_index(facility: u64) -> usize
+    requires { (1 ≤ facility) × (facility ≤ 4) }
+    ensures value { result ≡ facility - 1 }
+    ensures within { result < 4 }
+{
+    (facility - 1) as usize
+}
 
-/// The last year that has a place.
-pub(crate) const LAST_YEAR: u64 = 2036;
+/// Where one of the twenty years stands among them.
+pub(crate) fn year_index(year: u64) -> usize
+    requires { (2017 ≤ year) × (year ≤ 2036) }
+    ensures value { result ≡ year - 2017 }
+    ensures within { result < 20 }
+{
+    (year - FIRST_YEAR) as usize
+}
 
 /// A place of the table: one of the four facilities, and one of the twenty years.
 #[derive(Clone, Copy)]
@@ -44,20 +57,11 @@ impl Place {
         }
         Some(Place { facility, year })
     }
+}
 
-    /// Where its facility stands among the four.
-    pub(crate) fn facility_index(self) -> usize
-        ensures value { result ≡ self.facility - 1 }
-        ensures within { result < 4 }
-    {
-        (self.facility - 1) as usize
-    }
-
-    /// Where its year stands among the twenty.
-    pub(crate) fn year_index(self) -> usize
-        ensures value { result ≡ self.year - 2017 }
-        ensures within { result < 20 }
-    {
-        (self.year - FIRST_YEAR) as usize
-    }
+/// A place, and the enrolment of its facility.
+#[derive(Clone, Copy)]
+pub(crate) struct EnrolledPlace {
+    pub(crate) place: Place,
+    pub(crate) enrolment: Enrolment,
 }

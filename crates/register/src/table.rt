@@ -1,6 +1,7 @@
 //! What a register holds. Nothing cited here names these types, so that definitions above may.
 use crate::log::UndoLog;
 use enrolment::enrolment::Enrolment;
+use filing::places::{FACILITIES, YEARS};
 use filing::signed::Signed;
 use limit::outcome::Outcome;
 use quantity::units::Tonnes;
@@ -21,8 +22,8 @@ pub struct Assessment {
 pub(crate) struct Plant {
     pub(crate) enrolment: Option<Enrolment>,
     // Two arrays and not one of pairs: a method is lent the places alone, while the assessments are written.
-    pub(crate) places: [Option<Signed>; 20],
-    pub(crate) assessed: [Option<Assessment>; 20],
+    pub(crate) places: [Option<Signed>; YEARS],
+    pub(crate) assessed: [Option<Assessment>; YEARS],
 }
 
 /// The register of four facilities.
@@ -30,7 +31,7 @@ pub(crate) struct Plant {
 pub struct Register<M> {
     pub(crate) method: M,
     // An array: there are four facilities, and a register takes no memory that can run out.
-    pub(crate) plants: [Plant; 4],
+    pub(crate) plants: [Plant; FACILITIES as usize],
     pub(crate) log: UndoLog,
     pub(crate) used: u64,
 }

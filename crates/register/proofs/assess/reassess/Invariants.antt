@@ -5,8 +5,8 @@ use Rattle.standard.specs.Places.{filings}
 use Rattle.register.specs.Views.{assessment_fields, anew}
 use Rattle.register.proofs.assess.reassess.Given as goal
 
-abbrev pub invariant-loop-i : goal.invariant-loop-i
-invariant-loop-i g l =
+abbrev pub invariant-loop-year : goal.invariant-loop-year
+invariant-loop-year g l =
     (length l.assessed ≡ 20)
     × ((k : ℕ) → 2017 + k < l.at.year → get_or l.assessed k None ≡ get_or l.initial.assessed k None)
-    × ((k : ℕ) → l.at.year ≤ 2017 + k → k < l.i → option_map assessment_fields (get_or l.assessed k None) ≡ anew (g.M.LimitMethod.meaning l.method) (enrolled l.at.enrolment.now) (filings l.at.places.now) k l.number)
+    × ((k : ℕ) → l.at.year ≤ 2017 + k → 2017 + k < l.year → option_map assessment_fields (get_or l.assessed k None) ≡ anew (g.M.LimitMethod.meaning l.method) (enrolled l.at.enrolment.now) (filings l.at.places.now) k l.number)

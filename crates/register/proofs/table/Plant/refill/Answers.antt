@@ -12,9 +12,9 @@ returns g c =
     (record {
       enrolment = refl;
       places = placed;
-      before = λ k lt. let earlier : 2017 + k < c.args.place.year = omega (arith, lt, c.year_index.ensures.value, c.args.place.year_range.0) in c.reassess.ensures.before k earlier;
+      before = λ k lt. let earlier : 2017 + k < c.args.at.now.place.year = omega (arith, lt, c.year_index.ensures.value, c.args.at.now.place.year_range.0) in c.reassess.ensures.before k earlier;
       after = λ k lo hi.
-          let later : c.args.place.year ≤ 2017 + k = omega (arith, lo, c.year_index.ensures.value, c.args.place.year_range.0) in
+          let later : c.args.at.now.place.year ≤ 2017 + k = omega (arith, lo, c.year_index.ensures.value, c.args.at.now.place.year_range.0) in
           c.reassess.ensures.after k later hi
-          ∙ ap (λ ps. anew (g.M.LimitMethod.meaning c.args.method.now) (enrolled c.args.enrolment.now) ps k c.args.number) placed;
+          ∙ ap (λ ps. anew (g.M.LimitMethod.meaning c.args.method.now) (enrolled c.args.at.now.enrolment) ps k c.args.number) placed;
     })

@@ -13,10 +13,11 @@ pub returns-then-is_some-clause-lives : goal.returns-then-is_some-clause-lives
 returns-then-is_some-clause-lives g c =
     let e = c.in_ok-enrolment.enrolment in
     let made = c.in_ok-enrolment.ensures in
+    let read = sym c.is_some.ensures ∙ c.if-is_some.true in
+    let there = rw (c.facility_index-i.ensures.value, c.from.ensures) at read in
     λ m cs L.
     enrolled_twice g.M.LimitMethod.meaning m c.args.self.now c.args.fields cs L e made.0 made.1
-    (enrolled_as_read g.M.LimitMethod.meaning m c.args.self.now (accepted cs) L e.facility e.facility_range.0 e.facility_range.1 c.index-self-i.result _
-    (sym c.is_some.ensures ∙ c.if-is_some.true))
+    (enrolled_as_read g.M.LimitMethod.meaning m c.args.self.now (accepted cs) L e.facility e.facility_range.0 e.facility_range.1 c.index-self-i.result _ there)
 
 pub returns-clause-lives : goal.returns-clause-lives
 returns-clause-lives g c =
@@ -27,9 +28,12 @@ returns-clause-lives g c =
     let p = c.index-self-i-2.result in
     let four : length r.plants ≡ 4 = search rules in
     let within : e.facility - 1 < length r.plants = omega arith in
-    let gone = sym (ap (λ (d : Plant). is_some d.enrolment) (get_or_default r.plants i c.index-self-i.result p within)) ∙ sym c.is_some.ensures ∙ c.if-is_some.false in
-    λ m cs L.
+    let read = sym c.is_some.ensures ∙ c.if-is_some.false in
+    let here = rw (c.facility_index-i.ensures.value, c.from.ensures) at read in
+    let gone = sym (ap (λ (d : Plant). is_some d.enrolment) (get_or_default r.plants i c.index-self-i.result p within)) ∙ here in
+    rw (c.facility_index-i.ensures.value, c.from.ensures)
+    (λ m cs L.
     enrolled_once g.M.LimitMethod.meaning m r c.args.fields cs L e made.0 made.1 _
     (enrolled_as_read g.M.LimitMethod.meaning m r (accepted cs) L e.facility e.facility_range.0 e.facility_range.1 p _ gone)
     (enrol_holds g.M.LimitMethod.meaning m r _ (accepted cs) L (enrolled e) e.facility_range.0 e.facility_range.1 (get_or r.plants i p) (get_or_default r.plants i p (get_or r.plants i p) within)
-    (none_of (get_or r.plants i p).enrolment gone) e refl refl refl refl refl)
+    (none_of (get_or r.plants i p).enrolment gone) e refl refl refl refl refl))
