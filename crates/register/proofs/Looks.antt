@@ -8,20 +8,18 @@ use Rattle.enrolment.specs.Views.{enrolled}
 use Rattle.enrolment.specs.declared.enrolment.Enrolment.{Enrolment}
 use Rattle.limit.specs.Laws.{Meaning}
 use Rattle.register.specs.Acceptance.{unknown, vacant, first_of, accepted}
-use Rattle.register.specs.Answers.{AssessmentFields, refused, found, answer_by, answer_to, assessment_at}
+use Rattle.register.specs.Answers.{AssessmentFields, found, answer_by, answer_to, assessment_at}
 use Rattle.register.specs.Calls.{CallFields, look_up, Event}
 use Rattle.register.specs.History.{standing_at, enrolment_of}
 use Rattle.register.specs.Lived.{Holds, Lived}
-use Rattle.register.specs.Refusals.{refusal_told}
 use Rattle.register.specs.Steps.{EnrolledBy, Absent}
 use Rattle.standard.specs.Places.{at_year}
 use Rattle.register.specs.Views.{assessment_fields, blank_plant, shown_of, shown_in, shown_at, Looked, look_answer}
 use Rattle.register.specs.declared.refusals.Refusal.{Refusal}
-use Rattle.register.specs.declared.refusals.Refusal.TheVariants.{Unknown, Vacant}
+use Rattle.register.specs.declared.refusals.Refusal.TheVariants.{Vacant}
 use Rattle.register.specs.declared.table.Assessment.{Assessment}
 use Rattle.register.specs.declared.table.Plant.{Plant}
 use Rattle.register.specs.declared.table.Register.{Register}
-use Rattle.register.proofs.Asking.{absent_none}
 use Rattle.register.proofs.Keeping.{check_holds, check_passes}
 use Rattle.register.proofs.Options.{none_of}
 use Rattle.register.proofs.Shown.{shown_is, vacant_none}
@@ -103,15 +101,6 @@ enrolled_as_read μ m r es H f low high p b is =
     sym (ap is_some (H.plants_are f low high (get_or r.plants (f - 1) p) read).enrolment_is) ∙ mapped_some enrolled (get_or r.plants (f - 1) p).enrolment ∙ is
 
 module _ {M : Type 0} (μ : M → Meaning) (m : M) (r : Register M) (cs : List CallFields) (L : Lived μ m r cs) (f y : ℕ) where
-  look_unknown : is_some (enrolment_of (accepted cs) f) ≡ false → refused (refusal_told Unknown) ≡ answer_to (μ m) (look_up f y) cs
-  look_unknown gone =
-      sym
-      (ap (λ o. answer_by o (found (assessment_at (μ m) (accepted cs) f y)))
-      (check_holds (unknown (accepted cs) f) (vacant (accepted cs) f y ∷ []) (ap not gone)))
-
-  pub look_absent : Absent r f → refused (refusal_told Unknown) ≡ answer_to (μ m) (look_up f y) cs
-  look_absent absent = look_unknown (ap is_some (absent_none μ m r (accepted cs) L f absent))
-
   -- an enrolled facility: the answer is what is shown
   pub look_enrolled : is_some (enrolment_of (accepted cs) f) ≡ true → (o : Option AssessmentFields) → shown_at r f y ≡ o → found o ≡ answer_to (μ m) (look_up f y) cs
   look_enrolled known o is =

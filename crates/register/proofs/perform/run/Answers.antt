@@ -1,5 +1,5 @@
-use Rattle.std.proofs.Common.{◌≡◌, List, [], length, get_or, take, vec_items, sym, ap, ◌∙◌, subst, arith, rules}
-use Rattle.std.proofs.lemmas.List.{take_all, get_or_read}
+use Rattle.std.proofs.Common.{List, [], get_or, take, vec_items, sym, ap, ◌∙◌, subst, arith, rules}
+use Rattle.std.proofs.lemmas.List.{get_or_read}
 use Rattle.register.specs.Answers.{answer_to}
 use Rattle.register.specs.Calls.{CallFields, call_fields}
 use Rattle.register.specs.Laws.{Laws}
@@ -16,7 +16,6 @@ loop-call-init g c =
     let L = c.in_ok-register.ensures in (
       laws_of g.M.LimitMethod.meaning r.method [] r (subst (λ m. Lived g.M.LimitMethod.meaning m r []) (sym L.method_is) L),
       search rules,
-      search rules,
       λ k x a lt. absurd (omega arith),
     )
 
@@ -30,25 +29,9 @@ loop-call-preserved g c =
     let p = c.perform.ensures.laws r.method (history_of (take i xs)) c.loop-call.invariant.0.lived in (
       subst (λ (h : List CallFields). Laws g.M.LimitMethod.meaning r.method h c.perform.new.self) (sym told) p.0,
       omega (arith, c.push_reserved.ensures.len, c.loop-call.invariant.1),
-      search rules,
       λ k d a lt.
           each_more answered (λ j. answer_to (g.M.LimitMethod.meaning r.method) (call_fields (get_or xs j d)) (history_of (take j xs))) (vec_items c.loop-call.answers) (vec_items c.push_reserved.new.self) i c.perform.result
           c.push_reserved.ensures.items (sym c.loop-call.answers.ok.0 ∙ c.loop-call.invariant.1)
           (p.1 ∙ ap (λ (y : Call). answer_to (g.M.LimitMethod.meaning r.method) (call_fields y) (history_of (take i xs))) (get_or_read xs i x c.loop-call-test.true c.call-item.is d))
-          (λ j b lt'. c.loop-call.invariant.3 j d b lt') k a lt,
+          (λ j b lt'. c.loop-call.invariant.2 j d b lt') k a lt,
     )
-
-pub returns : goal.returns
-returns g c =
-    let r = c.in_ok-register.register in
-    let is = c.in_ok-register.ensures.method_is in
-    let xs = c.args.calls.now in
-    let i = c.loop-call.call-index in
-    let all : c.loop-call.call-index ≡ length c.args.calls.now = omega (arith, c.loop-call.auto.call-index-end, c.loop-call-test.false) in
-    record {
-      laws =
-          subst (λ m. Laws g.M.LimitMethod.meaning m (history_of xs) c.loop-call.register) is
-          (subst (λ (l : List Call). Laws g.M.LimitMethod.meaning r.method (history_of l) c.loop-call.register) (take_all i xs c.loop-call-test.false) c.loop-call.invariant.0);
-      all = sym c.loop-call.answers.ok.0 ∙ c.loop-call.invariant.1 ∙ all;
-      each = λ k d a lt. subst (λ m. answered (get_or (vec_items c.loop-call.answers) k a) ≡ answer_to (g.M.LimitMethod.meaning m) (call_fields (get_or xs k d)) (history_of (take k xs))) is (c.loop-call.invariant.3 k d a (omega arith));
-    }

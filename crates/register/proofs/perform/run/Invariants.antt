@@ -1,4 +1,4 @@
-use Rattle.std.proofs.Common.{◌≡◌, ℕ, ◌<◌, ◌≤◌, length, get_or, take, vec_items, vec_len, vec_capacity, Result}
+use Rattle.std.proofs.Common.{◌≡◌, ℕ, ◌<◌, get_or, take, vec_items, vec_len, Result}
 use Rattle.register.specs.Answers.{answer_to}
 use Rattle.register.specs.Calls.{call_fields}
 use Rattle.register.specs.Laws.{Laws}
@@ -13,5 +13,4 @@ abbrev pub invariant-loop-call : goal.invariant-loop-call
 invariant-loop-call g l =
     Laws g.M.LimitMethod.meaning l.initial.register.method (history_of (take l.call-index l.calls)) l.register
     × (vec_len l.answers ≡ l.call-index)
-    × (length l.calls ≤ vec_capacity l.answers)
     × ((k : ℕ) (c : Call) (a : Result Answer Refusal) → k < l.call-index → answered (get_or (vec_items l.answers) k a) ≡ answer_to (g.M.LimitMethod.meaning l.initial.register.method) (call_fields (get_or l.calls k c)) (history_of (take k l.calls)))

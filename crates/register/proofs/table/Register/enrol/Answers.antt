@@ -3,21 +3,11 @@ use Rattle.std.proofs.lemmas.List.{get_or_default}
 use Rattle.enrolment.specs.Views.{enrolled}
 use Rattle.register.specs.Acceptance.{accepted}
 use Rattle.register.specs.declared.table.Plant.{Plant}
-use Rattle.register.proofs.Enrolling.{enrolled_twice, enrolled_once}
+use Rattle.register.proofs.Enrolling.{enrolled_once}
 use Rattle.register.proofs.Looks.{enrolled_as_read}
 use Rattle.register.proofs.Options.{none_of}
 use Rattle.register.proofs.Starts.{enrol_holds}
 use Rattle.register.proofs.table.Register.enrol.Goals as goal
-
-pub returns-then-is_some-clause-lives : goal.returns-then-is_some-clause-lives
-returns-then-is_some-clause-lives g c =
-    let e = c.in_ok-enrolment.enrolment in
-    let made = c.in_ok-enrolment.ensures in
-    let read = sym c.is_some.ensures ∙ c.if-is_some.true in
-    let there = rw (c.facility_index-i.ensures.value, c.from.ensures) at read in
-    λ m cs L.
-    enrolled_twice g.M.LimitMethod.meaning m c.args.self.now c.args.fields cs L e made.0 made.1
-    (enrolled_as_read g.M.LimitMethod.meaning m c.args.self.now (accepted cs) L e.facility e.facility_range.0 e.facility_range.1 c.index-self-i.result _ there)
 
 pub returns-clause-lives : goal.returns-clause-lives
 returns-clause-lives g c =

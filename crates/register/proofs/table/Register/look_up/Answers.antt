@@ -2,39 +2,25 @@ use Rattle.std.proofs.Common.{◌≡◌, length, sym, ◌∙◌, rules}
 use Rattle.std.specs.Option.{option_map}
 use Rattle.std.proofs.lemmas.Result.{err_from_is_err_and}
 use Rattle.register.specs.Acceptance.{accepted}
-use Rattle.register.specs.Steps.{Absent}
 use Rattle.register.specs.Views.{assessment_fields}
-use Rattle.register.specs.declared.refusals.Refusal.TheVariants.{Unknown, Vacant}
+use Rattle.register.specs.declared.refusals.Refusal.TheVariants.{Vacant}
 use Rattle.register.proofs.Asking.{by_enrolled}
-use Rattle.register.proofs.Looks.{shown_unknown, shown_known, held_absent, held_enrolled, looked_or, answer_or_vacant, look_absent, look_enrolled}
-use Rattle.register.proofs.Options.{missing}
+use Rattle.register.proofs.Looks.{shown_unknown, shown_known, held_absent, held_enrolled, looked_or, answer_or_vacant, look_enrolled}
 use Rattle.register.proofs.table.Register.look_up.Goals as goal
 
-pub returns-in_err-plant : goal.returns-in_err-plant
-returns-in_err-plant g c =
+pub returns-in_err-plant-clause-shows : goal.returns-in_err-plant-clause-shows
+returns-in_err-plant-clause-shows g c =
     let f = c.args.facility in
     let four : length c.args.self.now.plants ≡ 4 = search rules in
     let p = err_from_is_err_and c.from_residual.result c.from_residual.ensures.1 in
-    let absent : Absent c.args.self.now f = λ low high d d-is. absurd (c.in_err-plant.ensures.1 low high) in
-    rw (p.1, p.2, c.in_err-plant.ensures.0)
-    (record {
-      shows = shown_unknown c.args.self.now f c.args.year four absent;
-      answers = λ m cs L. look_absent g.M.LimitMethod.meaning m c.args.self.now cs L f c.args.year absent;
-    })
+    rw p.1 (shown_unknown c.args.self.now f c.args.year four (λ low high d d-is. absurd (c.in_err-plant.ensures.1 low high)))
 
-pub returns-in_err-ok_or : goal.returns-in_err-ok_or
-returns-in_err-ok_or g c =
+pub returns-in_err-ok_or-clause-shows : goal.returns-in_err-ok_or-clause-shows
+returns-in_err-ok_or-clause-shows g c =
     let f = c.args.facility in
     let four : length c.args.self.now.plants ≡ 4 = search rules in
-    let plant = c.in_ok-plant.plant.now in
     let p = err_from_is_err_and c.from_residual-in_err-ok_or.result c.from_residual-in_err-ok_or.ensures.1 in
-    let why = missing plant.enrolment Unknown _ c.in_err-ok_or.ensures.ok_part c.in_err-ok_or.ensures.value in
-    let absent = held_absent c.args.self.now f four plant c.in_ok-plant.ensures.2 (sym c.in_err-ok_or.ensures.variant) in
-    rw (p.1, p.2, why)
-    (record {
-      shows = shown_unknown c.args.self.now f c.args.year four absent;
-      answers = λ m cs L. look_absent g.M.LimitMethod.meaning m c.args.self.now cs L f c.args.year absent;
-    })
+    rw p.1 (shown_unknown c.args.self.now f c.args.year four (held_absent c.args.self.now f four c.in_ok-plant.plant.now c.in_ok-plant.ensures.2 (sym c.in_err-ok_or.ensures.variant)))
 
 pub returns : goal.returns
 returns g c =
