@@ -171,8 +171,8 @@ fn view(
     register: &mut Register<Joined<Industrial, Station>>,
 ) -> Result<Vec<Seen>, Fail> {
     let mut seen = Vec::new(heap);
-    for facility in 1..5 {
-        for year in 2017..2037 {
+    for facility in 1..=4 {
+        for year in 2017..=2036 {
             seen.push(tell(register.perform(at(facility, year))))?;
         }
     }

@@ -35,7 +35,7 @@ fn assessment_of(filing: &Filing, outcome: Outcome, number: u64) -> Assessment
 fn fresh<M: LimitMethod>(method: &M, at: FacilityYear<'_>, number: u64) -> Option<Assessment>
     ensures { option_map assessment_fields result ≡ anew_of (M.LimitMethod.meaning method.now) (enrolled at.entry.enrolment.now) (filings at.entry.places.now) at.entry.year number (standing (filings at.entry.places.now) at.entry.year) }
 {
-    // No `map`: its closure would need a contract of its own, since it calls a method.
+    // No `map`: its closure would need a contract of its own, as what it calls is the method's.
     let filing = at.filing()?;
     Some(assessment_of(filing, method.outcome(at), number))
 }

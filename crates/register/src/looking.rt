@@ -47,7 +47,8 @@ impl<M: LimitMethod> Register<M> {
     pub(crate) fn standing(&self, place: Place) -> Option<Signed>
         ensures { StandsAt self.now place.facility place.year result }
     {
-        at_year(&self.plants[facility_index(place.facility)].places, place.year).copied()
+        let plant = &self.plants[facility_index(place.facility)];
+        at_year(&plant.places, place.year).copied()
     }
 
     /// The assessment of a facility and year.

@@ -1,4 +1,4 @@
-//! Which places there are. Nothing cited here names the type, so that definitions above may.
+//! Which places there are. Nothing cited here names these types, so that definitions above may.
 ghost use Rattle.std.specs.Prelude.{◌≡◌, ◌-◌, ◌<◌, ◌≤◌, true, false, MatchOption};
 ghost use Rattle.filing.specs.Views.{filed};
 ghost use Rattle.enrolment.specs.Ranges.{between};
