@@ -34,7 +34,7 @@ module _ {M : Type 0} (μ : M → Meaning) (m : M) (r : Register M) (es : List E
   pub is_full : 32 ≤ vec_len r.log.entries → (book_full es).0 ≡ true
   is_full h = le-leb most_acts (length (undo_log es)) (omega (arith, H.log_len))
 
-  pub not_bare : (vec_len r.log.entries ≡ 0 → ⊥) → (bare es).0 ≡ false
+  pub not_bare : 0 < vec_len r.log.entries → (bare es).0 ≡ false
   not_bare h = lt-leb (length (undo_log es)) 0 (omega (arith, H.log_len))
 
   pub not_spent : r.used < 1000000 → (spent es).0 ≡ false
