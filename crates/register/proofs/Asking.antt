@@ -1,6 +1,5 @@
 -- How a call on a facility and year is answered, from what was found there.
-use Rattle.std.proofs.Common.{◌≡◌, ℕ, ◌+◌, ◌-◌, ◌≤◌, Bool, true, false, not, ◌&&◌, leb, List, [], ◌∷◌, get_or, is_some, Some, None, Option, Result, sym, refl, ap, ◌∙◌, ⊎_elim, arith}
-use Rattle.std.proofs.lemmas.List.{get_or_default}
+use Rattle.std.proofs.Common.{◌≡◌, ℕ, ◌+◌, ◌-◌, ◌≤◌, Bool, true, false, not, ◌&&◌, leb, List, [], ◌∷◌, get_or, is_some, Some, None, Option, Result, sym, refl, ap, ◌∙◌, ⊎_elim}
 use Rattle.std.proofs.lemmas.Bool.{cases_Bool, and_parts, and_from, le-leb, leb-true, cond-true, cond-false}
 use Rattle.filing.specs.Filing.{FilingFields}
 use Rattle.filing.specs.declared.signed.Signed.{Signed}
@@ -15,15 +14,13 @@ use Rattle.register.specs.History.{standing_at, places_of, enrolment_of, numbers
 use Rattle.register.specs.Lived.{Holds, Lived, Lives}
 use Rattle.register.specs.Refusals.{refusal_told}
 use Rattle.register.specs.Steps.{EnrolledBy, Absent, StandsAt, Acted}
-use Rattle.register.specs.Views.{blank_plant}
 use Rattle.register.specs.declared.places.Place.{Place}
 use Rattle.register.specs.declared.refusals.Refusal.{Refusal}
 use Rattle.register.specs.declared.refusals.Refusal.TheVariants.{Unknown, Stands, Vacant}
-use Rattle.register.specs.declared.table.Plant.{Plant}
 use Rattle.register.specs.declared.table.Register.{Register}
 use Rattle.register.proofs.Deeds.{acted_lives}
 use Rattle.register.proofs.Keeping.{check_holds, check_passes, refused_lives}
-use Rattle.register.proofs.Plain.{no_year, enrolled_yes, enrolled_no}
+use Rattle.register.proofs.Plain.{no_year, enrolled_no, plant_at, plant_read, by_read, by_enrolled}
 use Rattle.register.proofs.Rows.{place_of}
 
 filing_some : (o : Option Signed) → is_some (filing_at o) ≡ is_some o
@@ -43,13 +40,6 @@ module _ {M : Type 0} (μ : M → Meaning) (m : M) (r : Register M) (es : List E
       cond-false (leb 2017 y && leb y 2036) (get_or (places_of es f) (y - 2017) None) None t ∙ sym (no_year μ m r es H f y t))
       (cases_Bool (between 2017 2036 y))
 
-  -- the facility's own part of the table
-  abbrev pub plant_at : ℕ → Plant
-  plant_at f = get_or r.plants (f - 1) blank_plant
-
-  pub plant_read : (f : ℕ) → 1 ≤ f → f ≤ 4 → plant_at f ≡ get_or r.plants (f - 1) (plant_at f)
-  plant_read f lo hi = get_or_default r.plants (f - 1) blank_plant (plant_at f) (omega (arith, H.four))
-
   pub absent_none : (f : ℕ) → Absent r f → enrolment_of es f ≡ None
   absent_none f absent =
       ⊎_elim
@@ -57,21 +47,17 @@ module _ {M : Type 0} (μ : M → Meaning) (m : M) (r : Register M) (es : List E
       let p = and_parts (leb 1 f) (leb f 4) t in
       let lo = leb-true 1 f p.0 in
       let hi = leb-true f 4 p.1 in
-      enrolled_no μ m r es H f lo hi (plant_at f) (plant_read f lo hi) (absent lo hi (plant_at f) (plant_read f lo hi)))
+      enrolled_no μ m r es H f lo hi (plant_at μ m r es H f) (plant_read μ m r es H f lo hi) (absent lo hi (plant_at μ m r es H f) (plant_read μ m r es H f lo hi)))
       (λ (t : between 1 4 f ≡ false). H.no_others f t)
       (cases_Bool (between 1 4 f))
 
   module _ (f : ℕ) (e : Enrolment) (by : EnrolledBy r f e) where
-    pub by_read : plant_at f ≡ get_or r.plants (f - 1) (plant_at f)
-    by_read = plant_read f by.low by.high
-
-    pub by_enrolled : is_some (enrolment_of es f) ≡ true
-    by_enrolled = enrolled_yes μ m r es H f by.low by.high (plant_at f) by_read e (by.enrolment (plant_at f) by_read)
-
     pub read_stands : (y : ℕ) (p : Option Signed) → StandsAt r f y p → filing_at p ≡ standing_at es f y
     read_stands y p stands =
-        stands (plant_at f) by_read
-        ∙ ap (λ (ps : Places). standing ps y) (H.plants_are f by.low by.high (plant_at f) by_read).places_are
+        let d = plant_at μ m r es H f in
+        let read = by_read μ m r es H f e by in
+        stands d read
+        ∙ ap (λ (ps : Places). standing ps y) (H.plants_are f by.low by.high d read).places_are
         ∙ history_stands f y
 
     -- a year without a place has nothing
@@ -134,10 +120,8 @@ module _ {M : Type 0} (μ : M → Meaning) (r : Register M) {c : CallFields} {a 
       pub asked_acts : ((m : M) → Later (μ m)) → (s : Register M) → 2017 ≤ a.year → a.year ≤ 2036 → bars (is_some p) ≡ false → (v : Option Signed) → filing_at v ≡ a.leaves → (ans : Result ℕ Refusal) → Acted μ r s a.facility a.year e p v ans → Lives μ r s c (λ m cs. number_answer ans ≡ answer_to (μ m) c cs)
       asked_acts later s low high free v v-is ans did m cs L =
           let es = accepted cs in
-          let d = plant_at μ m r es L a.facility in
-          let read = by_read μ m r es L a.facility e by in
           let left = passed m cs L ∙ check_passes (second es) (book_full es ∷ spent es ∷ []) (ap bars (as_read m cs L) ∙ free) in
-          let done = acted_lives μ later m r s a by.low by.high low high d read e (by.enrolment d read) p v v-is c cs L on.does left (read_stands μ m r es L a.facility e by a.year p stands) ans did in
+          let done = acted_lives μ later m r s a low high e by p v v-is c cs L on.does left (read_stands μ m r es L a.facility e by a.year p stands) ans did in
           (done.0, done.1 ∙ sym (ap (answer_by (refusal_of c es)) (on.grants (μ m) es)))
 
 -- a filing, at the place that it is for

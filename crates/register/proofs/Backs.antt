@@ -16,9 +16,9 @@ use Rattle.register.specs.Striking.{undo_log, closed_acts}
 use Rattle.register.specs.Views.{Logged, logged}
 use Rattle.register.specs.declared.log.Entry.{Entry}
 use Rattle.register.specs.declared.table.Register.{Register}
-use Rattle.register.proofs.Asking.{absent_none, plant_at, by_read}
+use Rattle.register.proofs.Asking.{absent_none}
 use Rattle.register.proofs.Keeping.{check_passes, accepted_lives}
-use Rattle.register.proofs.Plain.{known_on, not_bare, not_spent}
+use Rattle.register.proofs.Plain.{known_on, not_bare, not_spent, plant_at, by_read}
 use Rattle.register.proofs.Refills.{Refills, tail, open_tail, take_back_refills}
 use Rattle.register.proofs.Refits.{refit_lives}
 

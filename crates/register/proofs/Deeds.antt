@@ -1,5 +1,5 @@
 -- An act: the register holds what the events and the act say, and the answer is theirs.
-use Rattle.std.proofs.Common.{◌≡◌, ℕ, ◌+◌, ◌-◌, ◌≤◌, List, [], ◌∷◌, ◌++◌, get_or, Some, None, Ok, Err, Option, Result, sym, ap, ◌∙◌, subst, arith}
+use Rattle.std.proofs.Common.{◌≡◌, ℕ, ◌+◌, ◌≤◌, List, [], ◌∷◌, ◌++◌, Some, None, Ok, Err, Option, Result, sym, ap, ◌∙◌, subst, arith}
 use Rattle.filing.specs.Filing.{FilingFields}
 use Rattle.filing.specs.declared.signed.Signed.{Signed}
 use Rattle.enrolment.specs.declared.enrolment.Enrolment.{Enrolment}
@@ -10,23 +10,24 @@ use Rattle.register.specs.Answers.{numbered, answer_by, number_answer}
 use Rattle.register.specs.Calls.{CallFields, Act, Event, acts, event_of}
 use Rattle.register.specs.History.{standing_at, numbers}
 use Rattle.register.specs.Lived.{Holds, Lived, logged_acts}
-use Rattle.register.specs.Steps.{Refit, Done, Acted}
+use Rattle.register.specs.Steps.{Refit, Done, Acted, EnrolledBy}
 use Rattle.register.specs.Striking.{undo_log, closed_acts, unstruck}
 use Rattle.register.specs.Views.{Logged}
 use Rattle.register.specs.declared.refusals.Refusal.{Refusal}
 use Rattle.register.specs.declared.refusals.Refusal.TheVariants.{Unknown, Enrolled, Enrolment as BadEnrolment, Stands, Vacant, Book, Bare, Spent}
-use Rattle.register.specs.declared.table.Plant.{Plant}
 use Rattle.register.specs.declared.table.Register.{Register}
 use Rattle.register.proofs.Keeping.{check_holds, check_passes, refused_lives, accepted_lives}
-use Rattle.register.proofs.Plain.{known_on, not_full, is_full, not_spent, is_spent, enrolled_yes}
+use Rattle.register.proofs.Plain.{known_on, not_full, is_full, not_spent, is_spent, plant_at, by_read, by_enrolled}
 use Rattle.register.proofs.Refills.{Refills, act_refills}
 use Rattle.register.proofs.Refits.{refit_lives}
 
 module _ {M : Type 0} (μ : M → Meaning) where
-  module _ (later : (m : M) → Later (μ m)) (m : M) (r s : Register M) (a : Act) (f-low : 1 ≤ a.facility) (f-high : a.facility ≤ 4) (low : 2017 ≤ a.year) (high : a.year ≤ 2036) (d : Plant) (d-is : d ≡ get_or r.plants (a.facility - 1) d) (e : Enrolment) (enrolment : d.enrolment ≡ Some e) (old v : Option Signed) (v-is : filing_at v ≡ a.leaves) where
+  module _ (later : (m : M) → Later (μ m)) (m : M) (r s : Register M) (a : Act) (low : 2017 ≤ a.year) (high : a.year ≤ 2036) (e : Enrolment) (by : EnrolledBy r a.facility e) (old v : Option Signed) (v-is : filing_at v ≡ a.leaves) where
     pub done_holds : (es : List Event) → Holds μ m r es → filing_at old ≡ standing_at es a.facility a.year → (n : ℕ) → Done μ r s a.facility a.year e old v n → Holds μ m s (acts a ∷ es) × (n ≡ numbers es + 1)
     unfolding standing_at
     done_holds es H old-is n D =
+        let d = plant_at μ m r es H a.facility in
+        let read = by_read μ m r es H a.facility e by in
         let number : n ≡ numbers es + 1 = D.number ∙ ap (λ (i : ℕ). i + 1) H.used_is in
         let events₀ : Refills es (acts a ∷ es) a.facility a.year (filing_at v) (numbers es + 1) = subst (λ (o : Option FilingFields). Refills es (acts a ∷ es) a.facility a.year o (numbers es + 1)) (sym v-is) (act_refills es a) in
         let events : Refills es (acts a ∷ es) a.facility a.year (filing_at v) n = subst (λ (i : ℕ). Refills es (acts a ∷ es) a.facility a.year (filing_at v) i) (sym number) events₀ in
@@ -38,9 +39,9 @@ module _ {M : Type 0} (μ : M → Meaning) where
             used_is = D.used ∙ number;
             log_is = D.log ∙ ap (λ (l : List Logged). l ++ L (filing_at old)) H.log_is ∙ ap (λ (o : Option FilingFields). logged_acts (undo_log es) (closed_acts es) ++ L o) old-is;
             log_len = omega (arith, D.log_len, H.log_len);
-            plants_are = refit_lives (μ m) (later m) es (acts a ∷ es) r.plants s.plants a.facility a.year e v n low high events fit H.plants_are d d-is enrolment f-low;
+            plants_are = refit_lives (μ m) (later m) es (acts a ∷ es) r.plants s.plants a.facility a.year e v n low high events fit H.plants_are d read (by.enrolment d read) by.low;
             known = known_on es (acts a ∷ es) (λ f h. h) (unstruck (acts a ∷ es))
-                (record { is_enrolled = enrolled_yes μ m r es H a.facility f-low f-high d d-is e enrolment; from = low; to = high }, H.known);
+                (record { is_enrolled = by_enrolled μ m r es H a.facility e by; from = low; to = high }, H.known);
             no_others = H.no_others;
           },
           number,

@@ -3,6 +3,7 @@ use Rattle.std.proofs.Common.{◌≡◌, ℕ, ◌-◌, ◌<◌, ◌≤◌, true,
 use Rattle.std.specs.Option.{option_map}
 use Rattle.std.specs.List.{AllByRecursion}
 use Rattle.std.proofs.lemmas.Bool.{le-leb, lt-leb}
+use Rattle.std.proofs.lemmas.List.{get_or_default}
 use Rattle.enrolment.specs.Ranges.{between}
 use Rattle.enrolment.specs.Views.{enrolled}
 use Rattle.enrolment.specs.declared.enrolment.Enrolment.{Enrolment}
@@ -11,7 +12,9 @@ use Rattle.register.specs.Acceptance.{book_full, bare, spent, most_acts, last_nu
 use Rattle.register.specs.Calls.{Act, Event}
 use Rattle.register.specs.History.{standing_at, enrolment_of, numbers}
 use Rattle.register.specs.Lived.{Holds, Known}
+use Rattle.register.specs.Steps.{EnrolledBy}
 use Rattle.register.specs.Striking.{undo_log}
+use Rattle.register.specs.Views.{blank_plant}
 use Rattle.register.specs.declared.table.Plant.{Plant}
 use Rattle.register.specs.declared.table.Register.{Register}
 use Rattle.register.proofs.Vacancies.{outside_none}
@@ -48,8 +51,19 @@ module _ {M : Type 0} (μ : M → Meaning) (m : M) (r : Register M) (es : List E
     pub enrolled_is : (e : Enrolment) → d.enrolment ≡ Some e → enrolment_of es f ≡ Some (enrolled e)
     enrolled_is e h = sym (H.plants_are f lo hi d d-is).enrolment_is ∙ ap (option_map enrolled) h
 
-    pub enrolled_yes : (e : Enrolment) → d.enrolment ≡ Some e → is_some (enrolment_of es f) ≡ true
-    enrolled_yes e h = ap is_some (enrolled_is e h)
-
     pub enrolled_no : d.enrolment ≡ None → enrolment_of es f ≡ None
     enrolled_no h = sym (H.plants_are f lo hi d d-is).enrolment_is ∙ ap (option_map enrolled) h
+
+  -- the facility's own part of the table
+  abbrev pub plant_at : ℕ → Plant
+  plant_at f = get_or r.plants (f - 1) blank_plant
+
+  pub plant_read : (f : ℕ) → 1 ≤ f → f ≤ 4 → plant_at f ≡ get_or r.plants (f - 1) (plant_at f)
+  plant_read f lo hi = get_or_default r.plants (f - 1) blank_plant (plant_at f) (omega (arith, H.four))
+
+  module _ (f : ℕ) (e : Enrolment) (by : EnrolledBy r f e) where
+    pub by_read : plant_at f ≡ get_or r.plants (f - 1) (plant_at f)
+    by_read = plant_read f by.low by.high
+
+    pub by_enrolled : is_some (enrolment_of es f) ≡ true
+    by_enrolled = ap is_some (enrolled_is f by.low by.high (plant_at f) by_read e (by.enrolment (plant_at f) by_read))

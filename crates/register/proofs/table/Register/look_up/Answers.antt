@@ -4,7 +4,7 @@ use Rattle.std.proofs.lemmas.Result.{err_from_is_err_and}
 use Rattle.register.specs.Acceptance.{accepted}
 use Rattle.register.specs.Views.{assessment_fields}
 use Rattle.register.specs.declared.refusals.Refusal.TheVariants.{Vacant}
-use Rattle.register.proofs.Asking.{by_enrolled}
+use Rattle.register.proofs.Plain.{by_enrolled}
 use Rattle.register.proofs.Looks.{shown_unknown, shown_known, held_absent, held_enrolled, looked_or, answer_or_vacant, look_enrolled}
 use Rattle.register.proofs.table.Register.look_up.Goals as goal
 
