@@ -8,14 +8,11 @@ ghost use Rattle.standard.specs.Seen.{seen};
 
 use crate::activity::Activity;
 use crate::facility::FacilityYear;
-use crate::places::{FIRST_YEAR, YEARS};
 use crate::units::ReferenceYear;
+use filing::places::LAST_YEAR;
 
 /// The first year that may be a base year.
 const FIRST_BASE: u64 = 2019;
-
-/// The year after the last that has a place.
-const AFTER_LAST: u64 = FIRST_YEAR + YEARS;
 
 impl Activity<'_> {
     /// Whether a year may be the base year: it is not exempt, and has a line of the activity.
@@ -29,7 +26,7 @@ impl Activity<'_> {
     fn base_year(self) -> Option<u64>
         ensures { result ≡ base_year (enrolled self.entry.at.enrolment.now) (seen self.entry.at) self.entry.number }
     {
-        (FIRST_BASE..AFTER_LAST).find(|year| self.may_be_base(*year))
+        (FIRST_BASE..=LAST_YEAR).find(|year| self.may_be_base(*year))
     }
 
     /// What the base year has of the activity.

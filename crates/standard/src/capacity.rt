@@ -1,5 +1,6 @@
 //! The capacity of a unit that makes electricity from gaseous fuel.
-ghost use Rattle.std.specs.Prelude.{◌≡◌, ℕ, ◌+◌, ◌≤◌, [], ◌∷◌, map, sum_by};
+ghost use Rattle.std.specs.Prelude.{◌≡◌, ℕ, ◌+◌, ◌≤◌, ◌&&◌, not, [], ◌∷◌, map, filter, length, sum_by};
+ghost use Rattle.filing.specs.Checks.{most_lines};
 ghost use Rattle.filing.specs.Parts.{line_fields};
 ghost use Rattle.filing.specs.Views.{fields_of};
 ghost use Rattle.standard.specs.Adding.{Adds};
@@ -7,11 +8,12 @@ ghost use Rattle.standard.specs.Capacity.{dated, lines_at, of_unit, triggers as 
 ghost use Rattle.standard.specs.Places.{filing_at, filings, up_to};
 
 use crate::facility::FacilityYear;
-use crate::places::{FIRST_YEAR, up_to};
+use crate::places::up_to;
 use crate::units::Capacity;
 use filing::filing::Filing;
 use filing::kinds::LineKind;
 use filing::parts::Line;
+use filing::places::FIRST_YEAR;
 use filing::signed::Signed;
 
 /// The least addition that triggers the decreasing standard, in megawatts.
@@ -23,13 +25,6 @@ const TRIGGER_YEAR: u64 = 2021;
 /// The ratio below which an addition triggers it, in thousandths.
 const TRIGGER_RATIO: u16 = 900;
 
-/// Whether a line is one of gaseous electricity of the unit, in whatever year.
-fn of_unit(line: &Line, unit: u16) -> bool
-    ensures { result ≡ of_unit unit (dated 0 (line_fields line.now)) }
-{
-    line.kind == LineKind::Gaseous && line.number == unit
-}
-
 /// Whether an addition in that year triggers the decreasing standard.
 fn triggers(line: &Line, year: u64) -> bool
     ensures { result ≡ triggers_in (dated year (line_fields line.now)) }
@@ -37,35 +32,59 @@ fn triggers(line: &Line, year: u64) -> bool
     line.added.mw >= TRIGGER_MW && year >= TRIGGER_YEAR && line.ratio < TRIGGER_RATIO
 }
 
-/// What the filing of a year adds to a unit.
-fn added_by_filing(filing: &Filing, unit: u16, year: u64) -> Capacity
-    ensures adds { Adds unit (map (dated year) (fields_of filing.now).lines) result.triggering result.other }
-    ensures bound { result.triggering + result.other ≤ 6000 }
-{
-    let lines = filing.lines();
-    let triggering = lines
-        .iter()
-        .filter(|line| of_unit(line, unit))
-        .filter(|line| triggers(line, year))
-        .map(|line| line.added.mw)
-        .sum();
-    let other = lines
-        .iter()
-        .filter(|line| of_unit(line, unit))
-        .filter(|line| !triggers(line, year))
-        .map(|line| line.added.mw)
-        .sum();
-    Capacity { triggering, other }
+/// A unit in a year.
+#[derive(Clone, Copy)]
+struct UnitYear {
+    unit: u16,
+    year: u64,
 }
 
-/// What the place of a year adds to a unit.
-fn added_by_place(place: &Option<Signed>, unit: u16, year: u64) -> Capacity
-    ensures adds { Adds unit (map (dated year) (lines_at (filing_at place.now))) result.triggering result.other }
-    ensures bound { result.triggering + result.other ≤ 6000 }
-{
-    place.as_ref().map_or(Capacity::NONE, |signed| {
-        added_by_filing(signed.filing(), unit, year)
-    })
+impl UnitYear {
+    /// The megawatts that lines of the year add to the unit, and that trigger the decreasing standard.
+    fn triggering(self, lines: &[Line]) -> u64
+        requires few { length lines.now ≤ most_lines }
+        ensures { result ≡ sum_by (λ l. l.added.mw) (filter (λ l. of_unit self.unit (dated self.year (line_fields l)) && triggers_in (dated self.year (line_fields l))) lines.now) }
+    {
+        lines
+            .iter()
+            .filter(|line| line.is(LineKind::Gaseous, self.unit) && triggers(line, self.year))
+            .map(|line| line.added.mw)
+            .sum()
+    }
+
+    /// The megawatts that lines of the year add to the unit, and that trigger nothing.
+    fn other(self, lines: &[Line]) -> u64
+        requires few { length lines.now ≤ most_lines }
+        ensures { result ≡ sum_by (λ l. l.added.mw) (filter (λ l. of_unit self.unit (dated self.year (line_fields l)) && not (triggers_in (dated self.year (line_fields l)))) lines.now) }
+    {
+        lines
+            .iter()
+            .filter(|line| line.is(LineKind::Gaseous, self.unit) && !triggers(line, self.year))
+            .map(|line| line.added.mw)
+            .sum()
+    }
+
+    /// What the year's filing adds to the unit.
+    fn added_by(self, filing: &Filing) -> Capacity
+        ensures adds { Adds self.unit (map (dated self.year) (fields_of filing.now).lines) result.triggering result.other }
+        ensures bound { result.triggering + result.other ≤ 6000 }
+    {
+        let lines = filing.lines();
+        Capacity {
+            triggering: self.triggering(lines),
+            other: self.other(lines),
+        }
+    }
+
+    /// What the year's place adds to the unit.
+    fn added_at(self, place: &Option<Signed>) -> Capacity
+        ensures adds { Adds self.unit (map (dated self.year) (lines_at (filing_at place.now))) result.triggering result.other }
+        ensures bound { result.triggering + result.other ≤ 6000 }
+    {
+        place
+            .as_ref()
+            .map_or(Capacity::NONE, |signed| self.added_by(signed.filing()))
+    }
 }
 
 impl FacilityYear<'_> {
@@ -79,8 +98,8 @@ impl FacilityYear<'_> {
         let mut triggering = 0;
         let mut other = 0;
         // A `for`: the filing of each place is read once, for both sums.
-        for (i, place) in past.iter().enumerate() {
-            let added = added_by_place(place, unit, FIRST_YEAR + i as u64);
+        for (year, place) in (FIRST_YEAR..).zip(past) {
+            let added = UnitYear { unit, year }.added_at(place);
             triggering += added.triggering;
             other += added.other;
         }

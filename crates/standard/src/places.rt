@@ -6,13 +6,11 @@ ghost use Rattle.standard.specs.Seen.{seen};
 
 use crate::facility::FacilityYear;
 use filing::filing::Filing;
+use filing::places::{FIRST_YEAR, YEARS};
 use filing::signed::Signed;
 
-/// The year of the first place.
-pub const FIRST_YEAR: u64 = 2017;
-
 /// What stands at a year, which may be any number: years outside 2017 to 2036 have no place.
-pub fn at_year<T>(places: &[Option<T>; 20], year: u64) -> Option<&T>
+pub fn at_year<T>(places: &[Option<T>; YEARS], year: u64) -> Option<&T>
     ensures value { option_copied result ≡ at_year places.now year }
     ensures placed { IfSome result (λ _. (2017 ≤ year) × (year ≤ 2036)) }
 {
@@ -20,12 +18,9 @@ pub fn at_year<T>(places: &[Option<T>; 20], year: u64) -> Option<&T>
     places.get(i as usize)?.as_ref()
 }
 
-/// How many years have a place.
-pub(crate) const YEARS: u64 = 20;
-
 /// The places of the years up to and with a year. No method of `FacilityYear`: that an array has its
 /// twenty places is known of a parameter, and not of a field.
-pub(crate) fn up_to(places: &[Option<Signed>; 20], year: u64) -> &[Option<Signed>]
+pub(crate) fn up_to(places: &[Option<Signed>; YEARS], year: u64) -> &[Option<Signed>]
     ensures value { filings result.now ≡ up_to year (filings places.now) }
     ensures few { length result.now ≤ 20 }
 {
@@ -48,6 +43,6 @@ impl<'a> FacilityYear<'a> {
     pub fn filing(self) -> Option<&'a Filing>
         ensures { option_map (λ f. fields_of f.now) result ≡ standing (filings self.entry.places.now) self.entry.year }
     {
-        Some(at_year(self.places, self.year)?.filing())
+        at_year(self.places, self.year).map(Signed::filing)
     }
 }

@@ -1,5 +1,4 @@
-use Rattle.std.proofs.Common.{◌≡◌, ℕ, Bool, true, false, rules, tests}
-use Rattle.std.proofs.lemmas.Iterator.{first_from_Range}
+use Rattle.std.proofs.Common.{rules, tests}
 use Rattle.enrolment.specs.Views.{enrolled}
 use Rattle.standard.specs.Reference.{may_be_base, base_year}
 use Rattle.standard.specs.Seen.{seen}
@@ -9,6 +8,5 @@ use Rattle.standard.proofs.activity.Activity.base_year.Goals as goal
 pub returns : goal.returns
 unfolding base_year
 returns c =
-    let test : ℕ → Bool = may_be_base (enrolled c.args.self.at.enrolment.now) (seen c.args.self.at) c.args.self.number in
-    first_is test 2019 18 c.find.result
-    (first_from_Range _ _ _ c.find.result (λ y. test y ≡ true) (λ y. test y ≡ false) c.find.ensures.ran (λ x q k. search (rules, tests)) (λ x q k. search (rules, tests)))
+    rw (c.new.ensures.start, c.new.ensures.end, c.new.ensures.exhausted) at
+    (first_is (may_be_base (enrolled c.args.self.at.enrolment.now) (seen c.args.self.at) c.args.self.number) _ _ _ c.find.result c.find.ensures.ran (λ x q k. search (rules, tests)) (λ x q k. search (rules, tests)))

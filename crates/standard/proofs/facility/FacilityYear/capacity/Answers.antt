@@ -1,22 +1,24 @@
-use Rattle.std.proofs.Common.{subst, arith}
+use Rattle.std.proofs.Common.{◌≡◌, ap, length, arith}
+use Rattle.std.specs.Iterator.Adapters.{zip_second}
+use Rattle.std.specs.Slice.Iter.{iter_rest}
+use Rattle.standard.specs.Places.{filings, up_to}
 use Rattle.standard.specs.Adding.{Adds}
 use Rattle.standard.specs.Capacity.{dated_from, additions, triggering_megawatts, other_megawatts}
-use Rattle.standard.proofs.Additions.{adds_place, adds_places_all, adds_both}
+use Rattle.standard.proofs.Additions.{adds_place, adds_all, adds_both}
 use Rattle.standard.proofs.facility.FacilityYear.capacity.Goals as goal
 
-pub loop-i-preserved : goal.loop-i-preserved
-loop-i-preserved c = (
-  adds_place c.args.unit 2017 _ _ _ _ _ _ _ c.loop-i-test.true c.index-past-i.is c.loop-i.invariant.0 c.added_by_place-added.ensures.adds,
-  omega arith,
-)
+pub loop-year-preserved : goal.loop-year-preserved
+loop-year-preserved c =
+    let i = c.loop-year.invariant in
+    let s = c.in-Some.ensures.steps in
+    (adds_place c.args.unit _ _ _ _ _ _ _ _ _ _ _ s.0.0 s.0.1 s.1 i.0 c.added_at-added.ensures.adds, omega (arith, ap length s.1), omega (arith, ap length s.1))
 
 pub returns : goal.returns
 unfolding additions triggering_megawatts other_megawatts
 returns c =
-    let all = adds_places_all c.args.unit 2017 _ _ _ _ c.loop-i-test.false c.loop-i.invariant.0 in
-    let adds = subst (λ ps. Adds c.args.unit (dated_from 2017 ps) c.loop-i.triggering c.loop-i.other) c.up_to-past.ensures.value all in
-    record {
-      triggering = adds.triggering;
-      other = adds.other;
-      all = adds_both _ _ _ _ adds;
-    }
+    let i = c.loop-year.invariant in
+    let s = c.in-None.ensures.steps in
+    let none : length (iter_rest (zip_second c.loop-year.year-iterator)) ≡ 0 = grind (arith, s, i.1) in
+    let past : filings (iter_rest (zip_second c.into_iter-year-iterator.result)) ≡ up_to c.args.self.year (filings c.args.self.places.now) = cc in
+    let adds : Adds c.args.unit (dated_from 2017 (up_to c.args.self.year (filings c.args.self.places.now))) c.loop-year.triggering c.loop-year.other = rw past at (adds_all c.args.unit _ _ _ _ _ none i.0) in
+    record { triggering = adds.triggering; other = adds.other; all = adds_both _ _ _ _ adds }
