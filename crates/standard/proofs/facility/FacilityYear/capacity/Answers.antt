@@ -1,17 +1,11 @@
-use Rattle.std.proofs.Common.{◌≡◌, ap, length, arith}
+use Rattle.std.proofs.Common.{◌≡◌, length, arith}
 use Rattle.std.specs.Iterator.Adapters.{zip_second}
 use Rattle.std.specs.Slice.Iter.{iter_rest}
 use Rattle.standard.specs.Places.{filings, up_to}
 use Rattle.standard.specs.Adding.{Adds}
 use Rattle.standard.specs.Capacity.{dated_from, additions, triggering_megawatts, other_megawatts}
-use Rattle.standard.proofs.Additions.{adds_place, adds_all, adds_both}
+use Rattle.standard.proofs.Additions.{adds_all, adds_both}
 use Rattle.standard.proofs.facility.FacilityYear.capacity.Goals as goal
-
-pub loop-year-preserved : goal.loop-year-preserved
-loop-year-preserved c =
-    let i = c.loop-year.invariant in
-    let s = c.in-Some.ensures.steps in
-    (adds_place c.args.unit _ _ _ _ _ _ _ _ _ _ _ s.0.0 s.0.1 s.1 i.0 c.added_at-added.ensures.adds, omega (arith, ap length s.1), omega (arith, ap length s.1))
 
 pub returns : goal.returns
 unfolding additions triggering_megawatts other_megawatts
