@@ -25,7 +25,7 @@ pub(crate) fn up_to(places: &[Option<Signed>; YEARS], year: u64) -> &[Option<Sig
     ensures few { length result.now ≤ 20 }
 {
     let count = year.saturating_sub(FIRST_YEAR - 1) as usize;
-    places.get(..count).unwrap_or(places)
+    &places[..count.min(YEARS)]
 }
 
 impl<'a> FacilityYear<'a> {
