@@ -1,10 +1,11 @@
 -- A limit is the rounded sum of all contributions, and a fault is that of the first line that has one.
-use Rattle.std.proofs.Common.{◌≡◌, ℕ, zero, suc, ◌+◌, ◌<◌, List, [], ◌∷◌, length, get_or, Ok, Err, sum_by, Result, refl, ap, le_of_suc-le-suc, not-suc-le-zero, arith}
+use Rattle.std.proofs.Common.{◌≡◌, ℕ, zero, suc, ◌+◌, ◌<◌, List, [], ◌∷◌, length, get_or, Ok, Err, sum_by, Result, sym, refl, ap, subst, le_of_suc-le-suc, not-suc-le-zero, arith}
 use Rattle.std.proofs.lemmas.List.Sums.{sum_by-cons}
 use Rattle.filing.specs.declared.fields.LineFields.{LineFields}
 use Rattle.quantity.specs.Rounding.{nearest}
 use Rattle.standard.specs.declared.causes.Cause.{Cause}
 use Rattle.limit.specs.Lines.{Fault, both, summed, in_tonnes, limit_of, Yield, part, Means}
+use Rattle.limit.specs.Outcome.{Told}
 
 module _ (yield : LineFields → Result ℕ Cause) where
   -- the same of the lines from line i on, before the sum is rounded
@@ -58,3 +59,6 @@ module _ (yield : LineFields → Result ℕ Cause) where
   pub means : (ls : List LineFields) → Means yield ls (limit_of yield ls)
   unfolding limit_of
   means ls = rounded ls (summed yield 1 ls) (tells 1 ls)
+
+  pub meant : (ls : List LineFields) (t : Told) → t ≡ limit_of yield ls → Means yield ls t
+  meant ls t is = subst (Means yield ls) (sym is) (means ls)

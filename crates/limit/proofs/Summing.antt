@@ -1,6 +1,5 @@
 -- The loop that sums contributions and stops at the first fault.
-use Rattle.std.proofs.Common.{◌≡◌, ℕ, suc, ◌+◌, ◌<◌, ◌≤◌, List, map, length, get_or, drop, Ok, Err, Result, sym, refl, ap, ◌∙◌, add_assoc, arith}
-use Rattle.std.proofs.lemmas.List.{at_drop_more, at_drop_all}
+use Rattle.std.proofs.Common.{◌≡◌, ℕ, suc, ◌+◌, List, [], ◌∷◌, map, length, Ok, Err, Result, sym, ap, ◌∙◌, arith}
 use Rattle.filing.specs.Parts.{line_fields}
 use Rattle.filing.specs.declared.fields.LineFields.{LineFields}
 use Rattle.filing.specs.declared.parts.Line.{Line}
@@ -12,35 +11,21 @@ abbrev pub plus : ℕ → Result ℕ Fault → Result ℕ Fault
 plus s (Ok b) = Ok (s + b)
 plus s (Err e) = Err e
 
-plus_both : (s a i : ℕ) (r : Result ℕ Fault) → plus s (both i (Ok a) r) ≡ plus (s + a) r
-plus_both s a i (Ok b) = ap Ok (sym (add_assoc s a b))
-plus_both s a i (Err e) = refl
+module _ (yield : LineFields → Result ℕ Cause) (t : Result ℕ Fault) where
+  -- the sum so far, with what the lines ls from the number i on come to, is t
+  abbrev pub SoFar : ℕ → List Line → ℕ → Type 0
+  SoFar i ls s = plus s (summed yield i (map line_fields ls)) ≡ t
 
--- what the lines from the place i on come to
-abbrev pub left : (LineFields → Result ℕ Cause) → List Line → ℕ → Result ℕ Fault
-left yield ls i = summed yield (i + 1) (map line_fields (drop i ls))
+  -- a line more
+  next : (i s : ℕ) (l : Line) (ls ms : List Line) (y : Result ℕ Cause) → ls ≡ l ∷ ms → y ≡ yield (line_fields l) → SoFar i ls s → plus s (both i y (summed yield (suc i) (map line_fields ms))) ≡ t
+  next i s l ls ms y is e so_far =
+      ap (λ z. plus s (both i z (summed yield (suc i) (map line_fields ms)))) e
+      ∙ sym (ap (λ ns. plus s (summed yield i (map line_fields ns))) is)
+      ∙ so_far
 
-module _ (yield : LineFields → Result ℕ Cause) (ls : List Line) (i : ℕ) (t : Result ℕ Fault) (s : ℕ) (so_far : plus s (left yield ls i) ≡ t) where
-  module _ (l : Line) (within : i < length ls) (read : l ≡ get_or ls i l) where
-    -- a line more
-    next : (y : Result ℕ Cause) → y ≡ yield (line_fields l) → plus s (both (i + 1) y (summed yield (suc (i + 1)) (map line_fields (drop (i + 1) ls)))) ≡ t
-    next y e =
-        let more : left yield ls i ≡ both (i + 1) (yield (line_fields (get_or ls i l))) (summed yield (suc (i + 1)) (map line_fields (drop (i + 1) ls))) = at_drop_more (λ ms. summed yield (i + 1) (map line_fields ms)) ls i l within in
-        let here : y ≡ yield (line_fields (get_or ls i l)) = e ∙ ap (λ m. yield (line_fields m)) read in
-        ap (λ z. plus s (both (i + 1) z (summed yield (suc (i + 1)) (map line_fields (drop (i + 1) ls))))) here ∙ sym (ap (plus s) more) ∙ so_far
+  pub sum_fault : (i j s : ℕ) (c : Cause) (l : Line) (ls ms : List Line) → j ≡ i → ls ≡ l ∷ ms → Err c ≡ yield (line_fields l) → SoFar i ls s → Err (c, j) ≡ t
+  sum_fault i j s c l ls ms here is e so_far = ap (λ n. Err (c, n)) here ∙ next i s l ls ms (Err c) is e so_far
 
-    pub sum_next : (a : ℕ) → Ok a ≡ yield (line_fields l) → plus (s + a) (left yield ls (i + 1)) ≡ t
-    sum_next a e =
-        let up : i + 1 + 1 ≡ suc (i + 1) = omega arith in
-        ap (λ k. plus (s + a) (summed yield k (map line_fields (drop (i + 1) ls)))) up
-        ∙ sym (plus_both s a (i + 1) (summed yield (suc (i + 1)) (map line_fields (drop (i + 1) ls))))
-        ∙ next (Ok a) e
-
-    pub sum_fault : (c : Cause) → Err c ≡ yield (line_fields l) → Err (c, i + 1) ≡ t
-    sum_fault c e = next (Err c) e
-
-  pub sum_all : length ls ≤ i → Ok s ≡ t
-  sum_all past =
-      let zero_left : s ≡ s + 0 = omega arith in
-      let none : left yield ls i ≡ Ok 0 = at_drop_all (λ ms. summed yield (i + 1) (map line_fields ms)) ls i past in
-      ap Ok zero_left ∙ sym (ap (plus s) none) ∙ so_far
+  pub sum_all : (i s : ℕ) (ls : List Line) → length ls ≡ 0 → SoFar i ls s → Ok s ≡ t
+  sum_all i s [] none so_far = let zero_left : s ≡ s + 0 = omega arith in ap Ok zero_left ∙ so_far
+  sum_all i s (l ∷ ls) none so_far = absurd (omega arith)

@@ -24,11 +24,11 @@ pub fn limit_of(calculation: Calculation, at: FacilityYear<'_>, filing: &Filing)
 {
     let lines = filing.lines();
     let mut sum = 0;
-    // A `for` with an index, which the project's rules ask for: it stops at the first fault and names its line.
-    for (i, line) in lines.iter().enumerate() {
+    // A `for`: it stops at the first fault, and names its line.
+    for (place, line) in (1..).zip(lines) {
         match at.contribution(calculation, line) {
             Ok(part) => sum += part.ten_millionths,
-            Err(cause) => return Outcome::Fault { cause, line: i + 1 },
+            Err(cause) => return Outcome::Fault { cause, line: place },
         }
     }
     let exact = Quotient {
