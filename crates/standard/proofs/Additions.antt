@@ -1,15 +1,13 @@
--- What lines add to a unit: a line more, a place more.
-use Rattle.std.proofs.Common.{◌≡◌, ℕ, suc, ◌+◌, ◌≤◌, Bool, true, false, cond, not, ◌&&◌, List, [], ◌∷◌, ◌++◌, map, length, sum_by, filter, Option, sym, refl, ap, ◌∙◌, arith}
-use Rattle.std.proofs.lemmas.List.Elements.{filter-append}
+-- What lines add to a unit, and what is left of the places to add.
+use Rattle.std.proofs.Common.{◌≡◌, ℕ, ◌+◌, ◌≤◌, Bool, true, false, cond, not, ◌&&◌, List, [], ◌∷◌, map, length, sum_by, filter, Option, sym, refl, ap, ◌∙◌, arith}
 use Rattle.std.proofs.lemmas.List.Filters.{sum_by-filter_both}
-use Rattle.std.proofs.lemmas.List.Sums.{sum_by-append}
 use Rattle.filing.specs.Parts.{line_fields}
 use Rattle.filing.specs.declared.fields.LineFields.{LineFields}
 use Rattle.filing.specs.declared.parts.Line.{Line}
 use Rattle.filing.specs.declared.signed.Signed.{Signed}
 use Rattle.standard.specs.Adding.{Adds}
-use Rattle.standard.specs.Capacity.{Dated, dated, dated_from, lines_at, of_unit, triggers, megawatts}
-use Rattle.standard.specs.Places.{filing_at, filings}
+use Rattle.standard.specs.Capacity.{Dated, dated, dated_from, of_unit, triggers, megawatts}
+use Rattle.standard.specs.Places.{filings}
 use Rattle.standard.proofs.Lines.{few_small, sum_by-filter-map, sum_kept}
 
 -- of the unit's lines, the megawatts of those that pass
@@ -18,12 +16,6 @@ part p unit ds = sum_by megawatts (filter p (filter (of_unit unit) ds))
 
 abbrev pub rest : Dated → Bool
 rest d = not (triggers d)
-
-part_append : (p : Dated → Bool) (unit : ℕ) (xs ys : List Dated) → part p unit (xs ++ ys) ≡ part p unit xs + part p unit ys
-part_append p unit xs ys =
-    ap (λ ds. sum_by megawatts (filter p ds)) (filter-append (of_unit unit) xs ys)
-    ∙ ap (sum_by megawatts) (filter-append p (filter (of_unit unit) xs) (filter (of_unit unit) ys))
-    ∙ sum_by-append megawatts (filter p (filter (of_unit unit) xs)) (filter p (filter (of_unit unit) ys))
 
 twice : {X : Type 0} (p : X → Bool) (b : Bool) (x : X) (ys zs : List X) → filter p ys ≡ zs → filter p (cond b (x ∷ ys) ys) ≡ cond (b && p x) (x ∷ zs) zs
 twice p true x ys zs e = ap (λ l. cond (p x) (x ∷ l) l) e
@@ -61,15 +53,6 @@ module _ (unit y : ℕ) (ls : List Line) (fs : List LineFields) (same : map line
 -- t and u so far, and what the places ps from the year y on add, are what ds add
 abbrev pub Left : ℕ → ℕ → List (Option Signed) → List Dated → ℕ → ℕ → Type 0
 Left unit y ps ds t u = Adds unit ds (t + part triggers unit (dated_from y (filings ps))) (u + part rest unit (dated_from y (filings ps)))
-
--- a place more, that of the year x
-pub adds_place : (unit x y z : ℕ) (p : Option Signed) (ps qs : List (Option Signed)) (ds : List Dated) (t u v w : ℕ) → x ≡ y → z ≡ x + 1 → ps ≡ p ∷ qs → Left unit y ps ds t u → Adds unit (map (dated x) (lines_at (filing_at p))) v w → Left unit z qs ds (t + v) (u + w)
-adds_place unit x y z p ps qs ds t u v w here next is left a =
-    let up : z ≡ suc x = omega arith in
-    let triggering = part_append triggers unit (map (dated x) (lines_at (filing_at p))) (dated_from (suc x) (filings qs)) in
-    let other = part_append rest unit (map (dated x) (lines_at (filing_at p))) (dated_from (suc x) (filings qs)) in
-    let l : Left unit x (p ∷ qs) ds t u = rw (← here, is) at left in
-    rw up record { triggering = omega (arith, l.triggering, a.triggering, triggering); other = omega (arith, l.other, a.other, other) }
 
 pub adds_all : (unit y : ℕ) (ps : List (Option Signed)) (ds : List Dated) (t u : ℕ) → length ps ≡ 0 → Left unit y ps ds t u → Adds unit ds t u
 adds_all unit y [] ds t u none left = record { triggering = omega (arith, left.triggering); other = omega (arith, left.other) }
