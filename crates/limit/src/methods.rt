@@ -46,6 +46,8 @@ fn settled(exempt: bool, calculation: Calculation, at: FacilityYear<'_>) -> Outc
     limit_of(calculation, at, filing)
 }
 
+// Two impls that read alike. One over a trait for what sets them apart, the exempt years and the `Calculation`,
+// proves too, but is a trait, two impls of it and this one: longer, and no plainer.
 impl LimitMethod for Industrial {
     ghost meaning = { λ m e ps y. industrial e ps y };
 

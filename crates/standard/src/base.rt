@@ -2,7 +2,6 @@
 ghost use Rattle.std.specs.Prelude.{◌≡◌};
 ghost use Rattle.enrolment.specs.Views.{enrolled};
 ghost use Rattle.standard.specs.Found.{Based};
-ghost use Rattle.standard.specs.Places.{filings, up_to};
 ghost use Rattle.standard.specs.Reference.{may_be_base, base_year, BaseOf};
 ghost use Rattle.standard.specs.Seen.{seen};
 
@@ -40,8 +39,8 @@ impl Activity<'_> {
 impl FacilityYear<'_> {
     /// The base year of an activity, as the year sees it: from 2019 on, the earliest that is not exempt and has a line of the activity.
     pub fn base_year(self, activity: u16) -> Option<u64>
-        ensures value { result ≡ base_year (enrolled self.entry.enrolment.now) (up_to self.entry.year (filings self.entry.places.now)) activity }
-        ensures means { BaseOf (enrolled self.entry.enrolment.now) (up_to self.entry.year (filings self.entry.places.now)) activity result }
+        ensures value { result ≡ base_year (enrolled self.entry.enrolment.now) (seen self.entry) activity }
+        ensures means { BaseOf (enrolled self.entry.enrolment.now) (seen self.entry) activity result }
     {
         self.activity(activity).base_year()
     }

@@ -5,7 +5,8 @@ ghost use Rattle.filing.specs.Parts.{line_fields};
 ghost use Rattle.filing.specs.Views.{fields_of};
 ghost use Rattle.standard.specs.Adding.{Adds};
 ghost use Rattle.standard.specs.Capacity.{dated, lines_at, of_unit, triggers as triggers_in, megawatts, additions, triggering_megawatts, other_megawatts};
-ghost use Rattle.standard.specs.Places.{filing_at, filings, up_to};
+ghost use Rattle.standard.specs.Places.{filing_at};
+ghost use Rattle.standard.specs.Seen.{seen};
 
 use crate::facility::FacilityYear;
 use crate::places::up_to;
@@ -90,9 +91,9 @@ impl UnitYear {
 impl FacilityYear<'_> {
     /// The capacity of a unit in the year: what the places of the years up to it add.
     pub fn capacity(self, unit: u16) -> Capacity
-        ensures triggering { result.triggering ≡ triggering_megawatts unit (up_to self.entry.year (filings self.entry.places.now)) }
-        ensures other { result.other ≡ other_megawatts unit (up_to self.entry.year (filings self.entry.places.now)) }
-        ensures all { result.triggering + result.other ≡ sum_by megawatts (additions unit (up_to self.entry.year (filings self.entry.places.now))) }
+        ensures triggering { result.triggering ≡ triggering_megawatts unit (seen self.entry) }
+        ensures other { result.other ≡ other_megawatts unit (seen self.entry) }
+        ensures all { result.triggering + result.other ≡ sum_by megawatts (additions unit (seen self.entry)) }
     {
         let past = up_to(self.places, self.year);
         let mut triggering = 0;

@@ -1,7 +1,6 @@
 //! The reference years of an activity, by the facility's choice.
 ghost use Rattle.std.specs.Prelude.{◌≡◌, ◌≤◌, Some, [], ◌∷◌, map, filter};
 ghost use Rattle.enrolment.specs.Views.{enrolled};
-ghost use Rattle.standard.specs.Places.{filings, up_to};
 ghost use Rattle.standard.specs.Reference.{qualifies, figures_at, before_base, reference_years, references};
 ghost use Rattle.standard.specs.Seen.{seen};
 ghost use Rattle.standard.specs.Views.{listed, year_figures};
@@ -57,7 +56,7 @@ impl Activity<'_> {
 impl FacilityYear<'_> {
     /// The reference years of an activity, as the year sees them: no later filing counts.
     pub fn reference_years(self, activity: u16) -> Option<ReferenceYears>
-        ensures { listed result ≡ references (enrolled self.entry.enrolment.now) (up_to self.entry.year (filings self.entry.places.now)) activity }
+        ensures { listed result ≡ references (enrolled self.entry.enrolment.now) (seen self.entry) activity }
     {
         self.activity(activity).chosen_years()
     }
