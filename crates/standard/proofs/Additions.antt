@@ -2,13 +2,16 @@
 use Rattle.std.proofs.Common.{◌≡◌, ℕ, ◌+◌, ◌≤◌, Bool, true, false, cond, not, ◌&&◌, List, [], ◌∷◌, map, length, sum_by, filter, Option, sym, refl, ap, ◌∙◌, arith}
 use Rattle.std.proofs.lemmas.List.Filters.{sum_by-filter_both}
 use Rattle.filing.specs.Parts.{line_fields}
-use Rattle.filing.specs.declared.fields.LineFields.{LineFields}
+use Rattle.filing.specs.Views.{fields_of}
+use Rattle.filing.specs.declared.filing.Filing.{Filing}
 use Rattle.filing.specs.declared.parts.Line.{Line}
 use Rattle.filing.specs.declared.signed.Signed.{Signed}
 use Rattle.standard.specs.Adding.{Adds}
 use Rattle.standard.specs.Capacity.{Dated, dated, dated_from, of_unit, triggers, megawatts}
 use Rattle.standard.specs.Places.{filings}
-use Rattle.standard.proofs.Lines.{few_small, sum_by-filter-map, sum_kept}
+use Rattle.standard.specs.Seen.{lines_of}
+use Rattle.standard.proofs.Filed.{few_lines}
+use Rattle.standard.proofs.Lines.{few_small, sum_by-filter-map}
 
 -- of the unit's lines, the megawatts of those that pass
 abbrev pub part : (Dated → Bool) → ℕ → List Dated → ℕ
@@ -31,24 +34,24 @@ adds_both unit ds t u a =
     let both = sum_by-filter_both triggers (λ d. not (triggers d)) (λ _. refl) megawatts (filter (of_unit unit) ds) in
     omega (arith, a.triggering, a.other)
 
-module _ (unit y : ℕ) (ls : List Line) (fs : List LineFields) (same : map line_fields ls ≡ fs) where
-  -- what lines as they are kept add, as dated lines
-  lines_part : (p : Dated → Bool) → sum_by (λ (l : Line). l.added.mw) (filter (λ l. of_unit unit (dated y (line_fields l)) && p (dated y (line_fields l))) ls) ≡ part p unit (map (dated y) fs)
+module _ (unit y : ℕ) (f : Filing) where
+  -- what the lines of a filing add, as they are kept and as dated lines
+  lines_part : (p : Dated → Bool) → sum_by (λ (l : Line). l.added.mw) (filter (λ l. of_unit unit (dated y (line_fields l)) && p (dated y (line_fields l))) (lines_of f)) ≡ part p unit (map (dated y) (fields_of f).lines)
   lines_part p =
-      sum_kept (λ m. m.added) (λ m. of_unit unit (dated y m) && p (dated y m)) ls fs same
-      ∙ sym (sum_by-filter-map megawatts (λ d. of_unit unit d && p d) (dated y) fs)
-      ∙ ap (sum_by megawatts) (sym (filter_twice p (of_unit unit) (map (dated y) fs)))
+      sym (sum_by-filter-map (λ m. m.added) (λ m. of_unit unit (dated y m) && p (dated y m)) line_fields (lines_of f))
+      ∙ sym (sum_by-filter-map megawatts (λ d. of_unit unit d && p d) (dated y) (fields_of f).lines)
+      ∙ ap (sum_by megawatts) (sym (filter_twice p (of_unit unit) (map (dated y) (fields_of f).lines)))
 
-  -- the lines of a filing add to a unit what those that trigger have, and the others
-  pub adds_lines : (t u : ℕ) → t ≡ sum_by (λ (l : Line). l.added.mw) (filter (λ l. of_unit unit (dated y (line_fields l)) && triggers (dated y (line_fields l))) ls) → u ≡ sum_by (λ (l : Line). l.added.mw) (filter (λ l. of_unit unit (dated y (line_fields l)) && rest (dated y (line_fields l))) ls) → Adds unit (map (dated y) fs) t u
+  -- they add to a unit what those that trigger have, and the others
+  pub adds_lines : (t u : ℕ) → t ≡ sum_by (λ (l : Line). l.added.mw) (filter (λ l. of_unit unit (dated y (line_fields l)) && triggers (dated y (line_fields l))) (lines_of f)) → u ≡ sum_by (λ (l : Line). l.added.mw) (filter (λ l. of_unit unit (dated y (line_fields l)) && rest (dated y (line_fields l))) (lines_of f)) → Adds unit (map (dated y) (fields_of f).lines) t u
   adds_lines t u a b = record { triggering = a ∙ lines_part triggers; other = b ∙ lines_part rest }
 
   -- six lines add at most six thousand megawatts
-  pub lines_small : (t u : ℕ) → length ls ≤ 6 → Adds unit (map (dated y) fs) t u → t + u ≤ 6000
-  lines_small t u few a =
-      let own = sum_by-filter-map megawatts (of_unit unit) (dated y) fs in
-      let kept = sum_kept (λ m. m.added) (λ m. of_unit unit (dated y m)) ls fs same in
-      omega (arith, adds_both unit (map (dated y) fs) t u a, own, kept, few_small (λ (l : Line). l.added.mw) (λ l. of_unit unit (dated y (line_fields l))) 1000 ls (λ l. l.added.range) few)
+  pub lines_small : (t u : ℕ) → Adds unit (map (dated y) (fields_of f).lines) t u → t + u ≤ 6000
+  lines_small t u a =
+      let own = sum_by-filter-map megawatts (of_unit unit) (dated y) (fields_of f).lines in
+      let kept = sum_by-filter-map (λ m. m.added) (λ m. of_unit unit (dated y m)) line_fields (lines_of f) in
+      omega (arith, adds_both unit (map (dated y) (fields_of f).lines) t u a, own, kept, few_small (λ (l : Line). l.added.mw) (λ l. of_unit unit (dated y (line_fields l))) 1000 (lines_of f) (λ l. l.added.range) (few_lines f))
 
 -- t and u so far, and what the places ps from the year y on add, are what ds add
 abbrev pub Left : ℕ → ℕ → List (Option Signed) → List Dated → ℕ → ℕ → Type 0

@@ -1,5 +1,5 @@
 -- What the lines of a sound filing come to for an activity.
-use Rattle.std.proofs.Common.{◌≡◌, ℕ, ◌<◌, ◌≤◌, true, not, ltb, List, length, map, filter, sum_by, take, Some, sym, ap, ◌∙◌, subst, arith}
+use Rattle.std.proofs.Common.{◌≡◌, ℕ, ◌<◌, ◌≤◌, true, not, ltb, List, length, map, filter, sum_by, Some, sym, ap, ◌∙◌, subst, arith}
 use Rattle.std.proofs.lemmas.List.{length-map, length-take}
 use Rattle.std.proofs.lemmas.Bool.{eqb-true, and_parts, ltb-true}
 use Rattle.filing.specs.Filing.{FilingFields}
@@ -12,10 +12,12 @@ use Rattle.filing.specs.declared.filing.Filing.{Filing}
 use Rattle.filing.specs.declared.kinds.LineKind.{LineKind}
 use Rattle.filing.specs.declared.kinds.LineKind.TheVariants.{Calculated}
 use Rattle.filing.specs.declared.parts.Line.{Line}
+use Rattle.filing.specs.Views.{fields_of}
+use Rattle.standard.specs.Seen.{lines_of}
 use Rattle.standard.specs.Reference.{of_activity, has_activity, made_by}
 use Rattle.std.specs.List.{list_any}
 use Rattle.filing.specs.Parts.{line_fields}
-use Rattle.standard.proofs.Lines.{few_small, list_any-map, some_passed, sum_kept}
+use Rattle.standard.proofs.Lines.{few_small, list_any-map, some_passed, sum_by-filter-map}
 
 pub few_lines_filed : (f : FilingFields) (ls : List Line) → Sound f → map line_fields ls ≡ f.lines → length ls ≤ 6
 few_lines_filed f ls s e = omega (arith, s.few, ap length e, length-map ls line_fields)
@@ -36,20 +38,20 @@ has_made activity f s = some_passed (of_activity activity) (λ l. l.production) 
 pub made_above : (activity : ℕ) (f : FilingFields) → Sound f → (made : ℕ) → made ≡ made_by activity f → has_activity activity (Some f) ≡ true → 0 < made
 made_above activity f s made is has = omega (arith, ltb-true 0 (made_by activity f) (sym (has_made activity f s) ∙ has))
 
-module _ (activity : ℕ) (f : FilingFields) (ls : List Line) (same : map line_fields ls ≡ f.lines) where
-  -- whether a line is of the activity, and what the lines have of it, of the lines as they are kept
-  pub among : list_any (λ l. of_activity activity (line_fields l)) ls ≡ has_activity activity (Some f)
-  among = sym (list_any-map (of_activity activity) line_fields ls) ∙ ap (list_any (of_activity activity)) same
-
-  pub made : sum_by (λ (l : Line). l.production.thousandths) (filter (λ l. of_activity activity (line_fields l)) ls) ≡ made_by activity f
-  made = sum_kept (λ m. m.production) (of_activity activity) ls f.lines same
-
-  pub emitted : sum_by (λ (l : Line). l.attributed.kg) (filter (λ l. not (of_activity activity (line_fields l))) ls) ≡ sum_by (λ m. m.attributed) (filter (λ m. not (of_activity activity m)) f.lines)
-  emitted = sum_kept (λ m. m.attributed) (λ m. not (of_activity activity m)) ls f.lines same
-
-  pub made_small : length ls ≤ 6 → made_by activity f ≤ 600000000000
-  made_small few = omega (arith, made, few_small (λ (l : Line). l.production.thousandths) (λ l. of_activity activity (line_fields l)) 100000000000 ls (λ l. l.production.range) few)
-
 -- the lines of a filing are at most six
-pub few_lines : (f : Filing) (ls : List Line) → ls ≡ take f.count f.lines → length ls ≤ 6
-few_lines f ls kept = omega (arith, f.few, ap length kept, length-take f.count f.lines)
+pub few_lines : (f : Filing) → length (lines_of f) ≤ 6
+few_lines f = omega (arith, f.few, length-take f.count f.lines)
+
+module _ (activity : ℕ) (f : Filing) where
+  -- whether a line is of the activity, and what the lines have of it, of the lines as they are kept
+  pub among : list_any (λ l. of_activity activity (line_fields l)) (lines_of f) ≡ has_activity activity (Some (fields_of f))
+  among = sym (list_any-map (of_activity activity) line_fields (lines_of f))
+
+  pub made : sum_by (λ (l : Line). l.production.thousandths) (filter (λ l. of_activity activity (line_fields l)) (lines_of f)) ≡ made_by activity (fields_of f)
+  made = sym (sum_by-filter-map (λ m. m.production) (of_activity activity) line_fields (lines_of f))
+
+  pub emitted : sum_by (λ (l : Line). l.attributed.kg) (filter (λ l. not (of_activity activity (line_fields l))) (lines_of f)) ≡ sum_by (λ m. m.attributed) (filter (λ m. not (of_activity activity m)) (fields_of f).lines)
+  emitted = sym (sum_by-filter-map (λ m. m.attributed) (λ m. not (of_activity activity m)) line_fields (lines_of f))
+
+  pub made_small : made_by activity (fields_of f) ≤ 600000000000
+  made_small = omega (arith, made, few_small (λ (l : Line). l.production.thousandths) (λ l. of_activity activity (line_fields l)) 100000000000 (lines_of f) (λ l. l.production.range) (few_lines f))

@@ -4,9 +4,7 @@ use Rattle.std.proofs.Math.Nat.{mul-le-mul_right}
 use Rattle.std.proofs.lemmas.List.Sums.{sum_by-cons, sum_by-le, length-filter, count_by-le-length}
 use Rattle.std.proofs.lemmas.Bool.{lt-ltb}
 use Rattle.std.specs.List.{list_any}
-use Rattle.filing.specs.Parts.{line_fields}
 use Rattle.filing.specs.declared.fields.LineFields.{LineFields}
-use Rattle.filing.specs.declared.parts.Line.{Line}
 
 -- an element that passes, of what g makes of others
 pub list_any-map : {X Y : Type 0} (p : Y → Bool) (g : X → Y) (xs : List X) → list_any p (map g xs) ≡ list_any (λ x. p (g x)) xs
@@ -21,10 +19,6 @@ module _ {X Y : Type 0} (f : Y → ℕ) (p : Y → Bool) (g : X → Y) where
   pub sum_by-filter-map : (xs : List X) → sum_by f (filter p (map g xs)) ≡ sum_by (λ x. f (g x)) (filter (λ x. p (g x)) xs)
   sum_by-filter-map [] = refl
   sum_by-filter-map (x ∷ xs) = taken (p (g x)) x (filter (λ z. p (g z)) xs) (filter p (map g xs)) (sum_by-filter-map xs)
-
--- what lines that pass come to, of the lines as they are kept and as bare numbers
-pub sum_kept : (f : LineFields → ℕ) (p : LineFields → Bool) (ls : List Line) (fs : List LineFields) → map line_fields ls ≡ fs → sum_by (λ l. f (line_fields l)) (filter (λ l. p (line_fields l)) ls) ≡ sum_by f (filter p fs)
-sum_kept f p ls fs same = sym (sum_by-filter-map f p line_fields ls) ∙ ap (λ ms. sum_by f (filter p ms)) same
 
 -- those of six that pass come to at most six times the most
 pub few_small : {X : Type 0} (f : X → ℕ) (p : X → Bool) (m : ℕ) (xs : List X) → ((x : X) → f x ≤ m) → length xs ≤ 6 → sum_by f (filter p xs) ≤ 6 * m

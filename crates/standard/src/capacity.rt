@@ -1,14 +1,14 @@
 //! The capacity of a unit that makes electricity from gaseous fuel.
-ghost use Rattle.std.specs.Prelude.{◌≡◌, ℕ, ◌+◌, ◌≤◌, ◌&&◌, not, [], ◌∷◌, map, filter, length, sum_by};
-ghost use Rattle.filing.specs.Checks.{most_lines};
+ghost use Rattle.std.specs.Prelude.{◌≡◌, ℕ, ◌+◌, ◌≤◌, ◌&&◌, not, [], ◌∷◌, map, filter, sum_by};
 ghost use Rattle.filing.specs.Parts.{line_fields};
 ghost use Rattle.filing.specs.Views.{fields_of};
 ghost use Rattle.standard.specs.Adding.{Adds};
 ghost use Rattle.standard.specs.Capacity.{dated, lines_at, of_unit, triggers as triggers_in, megawatts, additions, triggering_megawatts, other_megawatts};
 ghost use Rattle.standard.specs.Places.{filing_at};
-ghost use Rattle.standard.specs.Seen.{seen};
+ghost use Rattle.standard.specs.Seen.{lines_of, seen};
 
 use crate::facility::FacilityYear;
+use crate::kept::lines_of;
 use crate::places::up_to;
 use crate::units::Capacity;
 use filing::filing::Filing;
@@ -41,24 +41,22 @@ struct UnitYear {
 }
 
 impl UnitYear {
-    /// The megawatts that lines of the year add to the unit, and that trigger the decreasing standard.
-    fn triggering(self, lines: &[Line]) -> u64
-        requires few { length lines.now ≤ most_lines }
-        ensures { result ≡ sum_by (λ l. l.added.mw) (filter (λ l. of_unit self.unit (dated self.year (line_fields l)) && triggers_in (dated self.year (line_fields l))) lines.now) }
+    /// The megawatts that the year's filing adds to the unit, and that trigger the decreasing standard.
+    fn triggering(self, filing: &Filing) -> u64
+        ensures { result ≡ sum_by (λ l. l.added.mw) (filter (λ l. of_unit self.unit (dated self.year (line_fields l)) && triggers_in (dated self.year (line_fields l))) (lines_of filing.now)) }
     {
-        lines
+        lines_of(filing)
             .iter()
             .filter(|line| line.is(LineKind::Gaseous, self.unit) && triggers(line, self.year))
             .map(|line| line.added.mw)
             .sum()
     }
 
-    /// The megawatts that lines of the year add to the unit, and that trigger nothing.
-    fn other(self, lines: &[Line]) -> u64
-        requires few { length lines.now ≤ most_lines }
-        ensures { result ≡ sum_by (λ l. l.added.mw) (filter (λ l. of_unit self.unit (dated self.year (line_fields l)) && not (triggers_in (dated self.year (line_fields l)))) lines.now) }
+    /// The megawatts that the year's filing adds to the unit, and that trigger nothing.
+    fn other(self, filing: &Filing) -> u64
+        ensures { result ≡ sum_by (λ l. l.added.mw) (filter (λ l. of_unit self.unit (dated self.year (line_fields l)) && not (triggers_in (dated self.year (line_fields l)))) (lines_of filing.now)) }
     {
-        lines
+        lines_of(filing)
             .iter()
             .filter(|line| line.is(LineKind::Gaseous, self.unit) && !triggers(line, self.year))
             .map(|line| line.added.mw)
@@ -70,10 +68,9 @@ impl UnitYear {
         ensures adds { Adds self.unit (map (dated self.year) (fields_of filing.now).lines) result.triggering result.other }
         ensures bound { result.triggering + result.other ≤ 6000 }
     {
-        let lines = filing.lines();
         Capacity {
-            triggering: self.triggering(lines),
-            other: self.other(lines),
+            triggering: self.triggering(filing),
+            other: self.other(filing),
         }
     }
 

@@ -1,36 +1,35 @@
 //! What the filing at a year's place has of an activity.
-ghost use Rattle.std.specs.Prelude.{◌≡◌, ◌≤◌, not, sum_by, filter, length, Some};
+ghost use Rattle.std.specs.Prelude.{◌≡◌, ◌≤◌, not, sum_by, filter, Some};
 ghost use Rattle.std.specs.List.{list_any};
-ghost use Rattle.filing.specs.Checks.{most_lines};
 ghost use Rattle.filing.specs.Parts.{line_fields};
 ghost use Rattle.filing.specs.Views.{filed};
 ghost use Rattle.standard.specs.Found.{YearOf};
 ghost use Rattle.standard.specs.Places.{standing};
 ghost use Rattle.standard.specs.Reference.{of_activity};
-ghost use Rattle.standard.specs.Seen.{seen};
+ghost use Rattle.standard.specs.Seen.{lines_of, seen};
 
 use crate::activity::Activity;
+use crate::kept::lines_of;
 use crate::units::ReferenceYear;
+use filing::filing::Filing;
 use filing::kinds::LineKind;
-use filing::parts::Line;
 use filing::signed::Signed;
 
 impl Activity<'_> {
-    /// Whether one of the lines is of the activity.
-    fn is_among(self, lines: &[Line]) -> bool
-        ensures { result ≡ list_any (λ l. of_activity self.entry.number (line_fields l)) lines.now }
+    /// Whether a line of the filing is of the activity.
+    fn is_in(self, filing: &Filing) -> bool
+        ensures { result ≡ list_any (λ l. of_activity self.entry.number (line_fields l)) (lines_of filing.now) }
     {
-        lines
+        lines_of(filing)
             .iter()
             .any(|line| line.is(LineKind::Calculated, self.number))
     }
 
     /// The kilograms attributed to the lines that are not of the activity.
-    fn other_kg(self, lines: &[Line]) -> u64
-        requires few { length lines.now ≤ most_lines }
-        ensures { result ≡ sum_by (λ l. l.attributed.kg) (filter (λ l. not (of_activity self.entry.number (line_fields l))) lines.now) }
+    fn other_kg(self, filing: &Filing) -> u64
+        ensures { result ≡ sum_by (λ l. l.attributed.kg) (filter (λ l. not (of_activity self.entry.number (line_fields l))) (lines_of filing.now)) }
     {
-        lines
+        lines_of(filing)
             .iter()
             .filter(|line| !line.is(LineKind::Calculated, self.number))
             .map(|line| line.attributed.kg)
@@ -38,11 +37,10 @@ impl Activity<'_> {
     }
 
     /// The production of the lines of the activity, in thousandths.
-    fn own_production(self, lines: &[Line]) -> u64
-        requires few { length lines.now ≤ most_lines }
-        ensures { result ≡ sum_by (λ l. l.production.thousandths) (filter (λ l. of_activity self.entry.number (line_fields l)) lines.now) }
+    fn own_production(self, filing: &Filing) -> u64
+        ensures { result ≡ sum_by (λ l. l.production.thousandths) (filter (λ l. of_activity self.entry.number (line_fields l)) (lines_of filing.now)) }
     {
-        lines
+        lines_of(filing)
             .iter()
             .filter(|line| line.is(LineKind::Calculated, self.number))
             .map(|line| line.production.thousandths)
@@ -54,15 +52,14 @@ impl Activity<'_> {
         ensures { YearOf self.entry.number year (Some (filed signed.now)) result }
     {
         let filing = signed.filing();
-        let lines = filing.lines();
-        if !self.is_among(lines) {
+        if !self.is_in(filing) {
             return None;
         }
         let total = filing.total();
         Some(ReferenceYear {
             year,
-            kg: total.kg.saturating_sub(self.other_kg(lines)),
-            thousandths: self.own_production(lines),
+            kg: total.kg.saturating_sub(self.other_kg(filing)),
+            thousandths: self.own_production(filing),
         })
     }
 

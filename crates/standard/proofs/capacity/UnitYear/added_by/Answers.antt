@@ -1,14 +1,11 @@
 use Rattle.std.proofs.Common.{arith}
 use Rattle.standard.proofs.Additions.{adds_lines, lines_small}
-use Rattle.standard.proofs.Filed.{few_lines}
 use Rattle.standard.proofs.capacity.UnitYear.added_by.Goals as goal
 
 pub invariant_of-result : goal.invariant_of-result
-invariant_of-result c =
-    let adds = adds_lines c.args.self.unit c.args.self.year _ _ c.lines-lines.ensures.fields _ _ c.triggering.ensures c.other.ensures in
-    omega (arith, lines_small c.args.self.unit c.args.self.year _ _ c.lines-lines.ensures.fields _ _ (few_lines c.args.filing.now _ c.lines-lines.ensures.kept) adds)
+invariant_of-result c = omega (arith, lines_small c.args.self.unit c.args.self.year c.args.filing.now _ _ (adds_lines c.args.self.unit c.args.self.year c.args.filing.now _ _ c.triggering.ensures c.other.ensures))
 
 pub returns : goal.returns
 returns c =
-    let adds = adds_lines c.args.self.unit c.args.self.year _ _ c.lines-lines.ensures.fields _ _ c.triggering.ensures c.other.ensures in
-    record { adds = adds; bound = lines_small c.args.self.unit c.args.self.year _ _ c.lines-lines.ensures.fields _ _ (few_lines c.args.filing.now _ c.lines-lines.ensures.kept) adds }
+    let adds = adds_lines c.args.self.unit c.args.self.year c.args.filing.now _ _ c.triggering.ensures c.other.ensures in
+    record { adds = adds; bound = lines_small c.args.self.unit c.args.self.year c.args.filing.now _ _ adds }
