@@ -6,5 +6,6 @@ mod fields;
 mod input;
 mod parts;
 pub mod reader;
+pub mod record;
 mod table;
 pub mod writer;

@@ -1,14 +1,24 @@
-//! The parts of a record that stand before its head.
-ghost use Rattle.std.specs.Prelude.{◌≡◌, ℕ, ◌+◌, ◌≤◌, length, IfOk};
+//! The parts of a record, one after another.
+ghost use Rattle.std.specs.Prelude.{◌≡◌, ℕ, ◌+◌, ◌*◌, ◌≤◌, length, IfOk};
+ghost use Rattle.filing.specs.Views.{drafted, filed};
 ghost use Rattle.codec.specs.Answers.{Says, Took};
-ghost use Rattle.codec.specs.Reading.{opening as opening_of, schema as schema_of};
+ghost use Rattle.codec.specs.Reading.{opening as opening_of, schema as schema_of, head_at, headed as headed_of, counted as counted_of, lined as lined_of, body as body_of};
 
 use crate::faults::ReadFault;
+use crate::fields::{Coded, Values};
 use crate::input::Input;
 use crate::table::{Codes, first_off};
+use filing::draft::Draft;
+use filing::faults::FilingFault;
+use filing::fields::{HeadFields, LineFields};
+use filing::signed::Signed;
 
 /// Where the count of the schema's codes stands.
 pub(crate) const COUNT_AT: usize = 5;
+
+// filing keeps its own constant to itself; the contract of `counted` ties this one to the same rule.
+/// The most lines that a record has.
+const MOST_LINES: usize = 6;
 
 /// The version, once the mark is seen.
 pub(crate) fn opening(bytes: &[u8]) -> Result<u16, ReadFault>
@@ -37,4 +47,58 @@ pub(crate) fn schema(row: Codes, input: &mut Input<'_>) -> Result<(), ReadFault>
         Some(line) => Err(ReadFault::Schema { line }),
         None => Ok(()),
     }
+}
+
+/// A draft with the head that stands next.
+fn headed(codes: Codes, input: &mut Input<'_>) -> Result<Draft, ReadFault>
+    ensures { Took drafted result (headed_of codes.list.now input.old.at input.old.bytes.now) input.old input.new (input.old.at + 8 * length codes.list.now) }
+{
+    let found = input.part(codes.size())?;
+    let mut draft = Draft::blank();
+    draft.set_head(HeadFields::of(&Values {
+        codes,
+        bytes: found,
+    }))?;
+    Ok(draft)
+}
+
+/// The count of lines that stands next.
+fn counted(input: &mut Input<'_>) -> Result<usize, ReadFault>
+    ensures { Took (λ n. n) result (counted_of input.old.at input.old.bytes.now) input.old input.new (input.old.at + 1) }
+{
+    let found = input.part(1)?;
+    let count = usize::from(found[0]);
+    if count > MOST_LINES {
+        return Err(ReadFault::Filing(FilingFault::Lines));
+    }
+    Ok(count)
+}
+
+/// Adds the lines that stand next.
+fn lined(
+    codes: Codes,
+    count: usize,
+    input: &mut Input<'_>,
+    draft: Draft,
+) -> Result<Draft, ReadFault>
+    ensures { Says (λ full. (input.new.at, drafted full)) result (lined_of codes.list.now count input.old.at input.old.bytes.now (drafted draft)) }
+{
+    let size = codes.size();
+    let mut full = draft;
+    for _line in 0..count {
+        let bytes = input.part(size)?;
+        full.add_line(LineFields::of(&Values { codes, bytes }))?;
+    }
+    Ok(full)
+}
+
+/// The filing, from the head on.
+pub(crate) fn body(row: Codes, input: &mut Input<'_>) -> Result<Signed, ReadFault>
+    requires { input.old.at ≡ head_at row.list.now }
+    ensures { Says (λ signed. (input.new.at, filed signed)) result (body_of row.list.now input.old.bytes.now) }
+{
+    let draft = headed(row.head(), input)?;
+    let count = counted(input)?;
+    let full = lined(row.line(), count, input, draft)?;
+    Ok(full.sign())
 }

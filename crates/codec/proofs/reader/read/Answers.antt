@@ -8,14 +8,14 @@ use Rattle.codec.specs.Reading.{reading}
 use Rattle.codec.specs.declared.faults.ReadFault.{ReadFault}
 use Rattle.codec.proofs.Inverting.{err_ok, ok_err, ok_inj, err_inj}
 use Rattle.codec.proofs.Differing.{matches, differs}
-use Rattle.codec.proofs.Prefixes.{followed, beginning, within}
+use Rattle.codec.proofs.Prefixes.{followed, beginning}
 use Rattle.codec.proofs.WriteBack.{write_back}
 use Rattle.codec.proofs.reader.read.Goals as goal
 
-pub returns-in_err-used : goal.returns-in_err-used
-returns-in_err-used c =
+pub returns-in_err-record : goal.returns-in_err-record
+returns-in_err-record c =
     let bs = c.args.bytes.now in
-    let h = c.in_err-used.ensures in
+    let h = c.in_err-record.ensures.says in
     let p = err_from_is_err_and c.from_residual.result c.from_residual.ensures.1 in
     rw (p.1, p.2)
     (record {
@@ -31,12 +31,12 @@ returns-in_err-used c =
 pub returns : goal.returns
 returns c =
     let bs = c.args.bytes.now in
-    let f = filed c.in_ok-used.signed in
-    let x : ℕ × ℕ × FilingFields = (c.in_ok-used.used, c.in_ok-used.version, f) in
-    let h : reading bs ≡ Ok x = c.in_ok-used.ensures in
+    let r = c.in_ok-record.record in
+    let x : ℕ × ℕ × FilingFields = (r.used, r.version, filed r.signed) in
+    let h : reading bs ≡ Ok x = c.in_ok-record.ensures.says in
     record {
       says = h;
-      within = within bs x h;
+      within = c.in_ok-record.ensures.within;
       matches = λ n v e. subst (λ (y : ℕ × ℕ). Matches bs y.1) (ok_inj e) (matches bs x h);
       differs = λ n e. absurd (ok_err e);
       followed = λ n v e rest. subst (λ (y : ℕ × ℕ). reading (take y.0 bs ++ rest) ≡ reading bs) (ok_inj e) (followed bs x h rest ∙ sym h);

@@ -3,7 +3,7 @@ use Rattle.std.proofs.lemmas.Result.{err_from_is_err_and}
 use Rattle.filing.specs.Checks.{adding}
 use Rattle.filing.specs.Views.{drafted}
 use Rattle.codec.proofs.Steps.{lined_cut, lined_refused, lined_more}
-use Rattle.codec.proofs.reader.lined.Goals as goal
+use Rattle.codec.proofs.parts.lined.Goals as goal
 
 pub returns-in_err-bytes : goal.returns-in_err-bytes
 returns-in_err-bytes c =

@@ -1,7 +1,7 @@
 use Rattle.std.proofs.Common.{◌≡◌, ◌-◌}
 use Rattle.filing.specs.Views.{drafted}
 use Rattle.codec.specs.Reading.{lined}
-use Rattle.codec.proofs.reader.lined.Given as goal
+use Rattle.codec.proofs.parts.lined.Given as goal
 
 abbrev pub invariant-loop-line : goal.invariant-loop-line
 invariant-loop-line l =
