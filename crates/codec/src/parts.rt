@@ -13,6 +13,9 @@ use filing::faults::FilingFault;
 use filing::fields::{HeadFields, LineFields};
 use filing::signed::Signed;
 
+/// The bytes that every record begins with.
+pub(crate) const MARK: &[u8; 3] = b"OBF";
+
 /// Where the count of the schema's codes stands.
 pub(crate) const COUNT_AT: usize = 5;
 
@@ -26,12 +29,12 @@ pub(crate) fn opening(bytes: &[u8]) -> Result<u16, ReadFault>
     ensures long { IfOk result (λ v. 5 ≤ length bytes.now) }
 {
     let length = bytes.len();
-    let [0x4F, 0x42, 0x46, rest @ ..] = bytes else {
-        if length < 3 {
-            return Err(ReadFault::Cut { length });
-        }
-        return Err(ReadFault::Mark);
+    let [a, b, c, rest @ ..] = bytes else {
+        return Err(ReadFault::Cut { length });
     };
+    if [*a, *b, *c] != *MARK {
+        return Err(ReadFault::Mark);
+    }
     let version = rest.first_chunk().ok_or(ReadFault::Cut { length })?;
     Ok(u16::from_be_bytes(*version))
 }
