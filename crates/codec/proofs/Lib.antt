@@ -10,3 +10,4 @@ pub mod WriteBack
 pub mod ReadBack
 pub mod Numbered
 pub mod Differing
+pub mod Following

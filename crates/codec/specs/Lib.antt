@@ -7,3 +7,4 @@ pub mod Reading
 pub mod Answers
 pub mod Writing
 pub mod Laws
+pub mod Records

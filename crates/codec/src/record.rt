@@ -1,8 +1,10 @@
-//! A record, read from the front of its bytes.
+//! Records, read from the front of bytes one after another.
 ghost use Rattle.std.specs.Prelude.{◌≡◌, ℕ, ◌<◌, ◌≤◌, length, IfOk};
+ghost use Rattle.std.specs.Iterator.{YieldsFirstBy, item_count};
 ghost use Rattle.filing.specs.Views.{filed};
 ghost use Rattle.codec.specs.Answers.{Says};
 ghost use Rattle.codec.specs.Reading.{reading};
+ghost use Rattle.codec.specs.Records.{records_of, records_left, said};
 
 use crate::faults::ReadFault;
 use crate::input::Input;
@@ -37,5 +39,44 @@ impl Record {
             version,
             signed,
         })
+    }
+}
+
+/// The records of some bytes, up to their end or to the first that is refused.
+#[derive(Drop)]
+pub struct Records<'a> {
+    rest: &'a [u8],
+}
+
+impl<'a> From<&'a [u8]> for Records<'a> {
+    ghost from_gives = { λ bytes records. records_left records ≡ records_of bytes.now };
+
+    fn from(bytes: &'a [u8]) -> Records<'a> {
+        Records { rest: bytes }
+    }
+}
+
+impl Iterator for Records<'_> {
+    type Item = Result<Record, ReadFault>;
+
+    ghost next_gives = { YieldsFirstBy said records_left };
+
+    ghost remaining = { item_count records_left };
+
+    #[tactic(auto, using(crate::proofs::Following::refusal_last))]
+    fn next(&mut self) -> Option<Result<Record, ReadFault>> {
+        if self.rest.is_empty() {
+            return None;
+        }
+        match Record::read(self.rest) {
+            Ok(record) => {
+                self.rest = &self.rest[record.used..];
+                Some(Ok(record))
+            }
+            Err(fault) => {
+                self.rest = &[];
+                Some(Err(fault))
+            }
+        }
     }
 }

@@ -9,29 +9,28 @@ mod tests;
 
 use crate::making::{Sample, file, samples};
 use anyhow::anyhow;
-use codec::reader::read;
-use filing::draft::Draft;
+use codec::record::{Record, Records};
 use std::{env, fs};
 
 /// Prints what each record of a file says.
 fn tell(rt: &HostRuntime, bytes: &[u8]) -> anyhow::Result<()> {
-    let mut signed = Draft::blank().sign();
-    let mut rest = bytes;
-    // Records are gone through nowhere else here, so an iterator over them would only be longer.
-    while !rest.is_empty() {
-        let (length, version) = read(rest, &mut signed).try_map_err(|fault| {
+    for record in Records::from(bytes) {
+        let Record {
+            used,
+            version,
+            signed,
+        } = record.try_map_err(|fault| {
             println!(rt; "  refused {fault}")?;
             Ok(anyhow!("a sample record is refused"))
         })?;
         let filing = signed.filing();
         println!(rt;
-            "  version {version} bytes {length} facility {} year {} total {} kg lines {}",
+            "  version {version} bytes {used} facility {} year {} total {} kg lines {}",
             filing.head().facility,
             filing.head().year,
             filing.total().kg,
             filing.count()
         )?;
-        rest = &rest[length..];
     }
     Ok(())
 }

@@ -1,19 +1,35 @@
 //! Every refusal of the reader, at every byte where it can come.
-use crate::making::{Sample, record, samples};
+use crate::making::{file, record, samples};
+use codec::faults::ReadFault;
 use codec::reader::read;
+use codec::record::{Record, Records};
 use codec::writer::write;
 use filing::draft::Draft;
 use std::alloc::{AllocError, Global};
 use std::test::Fail;
 
 // Texts and no values: what a refusal prints is promised too, and with values it would need tests of its own.
-/// What the reader answers, in words.
-fn answer(heap: Global, bytes: &[u8]) -> Result<String, AllocError> {
-    let mut signed = Draft::blank().sign();
-    match read(bytes, &mut signed) {
-        Ok((used, version)) => format!(in heap; "{used} bytes in version {version}"),
+/// A reading in words.
+fn told(heap: Global, record: Result<Record, ReadFault>) -> Result<String, AllocError> {
+    match record {
+        Ok(Record { used, version, .. }) => format!(in heap; "{used} bytes in version {version}"),
         Err(fault) => format!(in heap; "{fault}"),
     }
+}
+
+/// What the reader answers, in words.
+fn answer(heap: Global, bytes: &[u8]) -> Result<String, AllocError> {
+    told(heap, Record::read(bytes))
+}
+
+/// What it answers for the records one after another, each in a line.
+fn answers(heap: Global, bytes: &[u8]) -> Result<String, AllocError> {
+    let mut all = String::new(heap);
+    for record in Records::from(bytes) {
+        all.push_str(&told(heap, record)?)?;
+        all.push('\n')?;
+    }
+    Ok(all)
 }
 
 /// What the reader answers where the bytes from a place on are others.
@@ -140,5 +156,26 @@ fn order_and_place(rt: HostRuntime) -> Result<(), Fail> {
     let mut small = [7u8; 188];
     assert!(rt; write(&signed, &mut small).is_err());
     assert!(rt; small[0] == 7 && small[187] == 7);
+    Ok(())
+}
+
+/// The records come up to the end, or to the first that is refused.
+#[test]
+fn one_after_another(rt: HostRuntime) -> Result<(), Fail> {
+    let heap = rt.alloc();
+    let [_, _, sample] = samples();
+    let mut both = file(heap, sample)?;
+    assert!(rt; both.len() == 266);
+    assert_eq!(rt; answers(heap, &[])?.as_str(), "");
+    assert_eq!(rt;
+        answers(heap, &both)?.as_str(),
+        "77 bytes in version 3\n189 bytes in version 3\n"
+    );
+    assert_eq!(rt;
+        answers(heap, &both[..265])?.as_str(),
+        "77 bytes in version 3\n1 cut length 188\n"
+    );
+    both[0] = 0;
+    assert_eq!(rt; answers(heap, &both)?.as_str(), "2 mark\n");
     Ok(())
 }
