@@ -11,6 +11,7 @@ use crate::table::{Codes, first_off};
 use filing::draft::Draft;
 use filing::faults::FilingFault;
 use filing::fields::{HeadFields, LineFields};
+use filing::filing::MOST_LINES;
 use filing::signed::Signed;
 
 /// The bytes that every record begins with.
@@ -18,10 +19,6 @@ pub(crate) const MARK: &[u8; 3] = b"OBF";
 
 /// Where the count of the schema's codes stands.
 pub(crate) const COUNT_AT: usize = 5;
-
-// filing keeps its own constant to itself; the contract of `counted` ties this one to the same rule.
-/// The most lines that a record has.
-const MOST_LINES: usize = 6;
 
 /// The version, once the mark is seen.
 pub(crate) fn opening(bytes: &[u8]) -> Result<u16, ReadFault>
