@@ -1,13 +1,9 @@
 //! Files of records: shown, and written anew in the engine's version.
-ghost use Rattle.std.specs.Prelude.{length};
-ghost use Rattle.std.specs.Iterator.{at_most};
-
 use crate::answers::Summary;
 use crate::failures::Failure;
 use codec::faults::ReadFault;
-use codec::reader::read;
+use codec::record::{Record, Records};
 use codec::writer::write;
-use filing::draft::Draft;
 use filing::fields::HeadFields;
 use filing::signed::Signed;
 use std::alloc::Global;
@@ -19,21 +15,19 @@ const ROOM: usize = 512;
 
 /// A record of a file: where it begins, and what it says.
 #[derive(Clone, Copy)]
-struct Record {
+struct Placed {
     offset: usize,
-    version: u16,
-    length: usize,
-    signed: Signed,
+    record: Record,
 }
 
-impl fmt::Display for Record {
+impl fmt::Display for Placed {
     fn fmt<W: fmt::Write>(&self, f: &mut fmt::Formatter<W>) -> fmt::Result {
+        let Placed { offset, record } = *self;
         let Record {
-            offset,
+            used,
             version,
-            length,
             signed,
-        } = *self;
+        } = record;
         let filing = signed.filing();
         let HeadFields {
             co2,
@@ -45,7 +39,7 @@ impl fmt::Display for Record {
         } = HeadFields::from(filing.head());
         write!(
             f,
-            "offset {offset} version {version} bytes {length} co2 {co2} ch4 {ch4} n2o {n2o} sf6 {sf6} captured {captured} {}",
+            "offset {offset} version {version} bytes {used} co2 {co2} ch4 {ch4} n2o {n2o} sf6 {sf6} captured {captured} {}",
             Summary(filing)
         )
     }
@@ -69,56 +63,25 @@ impl fmt::Display for RefusedRecord {
     }
 }
 
-/// The records of a file from the front, up to its end or to the first that is refused.
-#[derive(Drop)]
-struct Records<'a> {
-    rest: &'a [u8],
-    offset: usize,
-}
-
-impl Records<'_> {
-    fn of(bytes: &[u8]) -> Records<'_> {
-        Records {
-            rest: bytes,
-            offset: 0,
+/// A record with where it begins; the next begins where it ends.
+fn with_offset(
+    next: &mut usize,
+    record: Result<Record, ReadFault>,
+) -> Option<Result<Placed, RefusedRecord>> {
+    let offset = *next;
+    Some(match record {
+        Ok(record) => {
+            *next = offset.saturating_add(record.used);
+            Ok(Placed { offset, record })
         }
-    }
-}
-
-impl Iterator for Records<'_> {
-    type Item = Result<Record, RefusedRecord>;
-
-    ghost remaining = { λ records. at_most (length records.rest.now) };
-
-    fn next(&mut self) -> Option<Result<Record, RefusedRecord>> {
-        if self.rest.is_empty() {
-            return None;
-        }
-        let offset = self.offset;
-        let mut signed = Draft::blank().sign();
-        match read(self.rest, &mut signed) {
-            Ok((length, version)) => {
-                self.rest = &self.rest[length..];
-                self.offset = offset.saturating_add(length);
-                Some(Ok(Record {
-                    offset,
-                    version,
-                    length,
-                    signed,
-                }))
-            }
-            Err(fault) => {
-                self.rest = &[];
-                Some(Err(RefusedRecord { offset, fault }))
-            }
-        }
-    }
+        Err(fault) => Err(RefusedRecord { offset, fault }),
+    })
 }
 
 /// Prints each record from the front, up to the end or to the first that is refused.
 pub(crate) fn show(rt: &HostRuntime, bytes: &[u8]) -> Result<(), Failure> {
     let mut out = BufWriter::new(rt.alloc(), rt.stdout()).map_err(|_| Failure::Memory)?;
-    for record in Records::of(bytes) {
+    for record in Records::from(bytes).scan(0, with_offset) {
         match record {
             Ok(record) => writeln!(out, "{record}").map_err(Failure::Output)?,
             Err(refused) => {
@@ -134,8 +97,8 @@ pub(crate) fn show(rt: &HostRuntime, bytes: &[u8]) -> Result<(), Failure> {
 /// The records of a file one after another in the engine's version, or the first refusal.
 pub(crate) fn upgraded(heap: Global, bytes: &[u8]) -> Result<Vec<u8>, Failure> {
     let mut all = Vec::new(heap);
-    for record in Records::of(bytes) {
-        append(&mut all, &record.map_err(Failure::Refused)?.signed)?;
+    for record in Records::from(bytes).scan(0, with_offset) {
+        append(&mut all, &record.map_err(Failure::Refused)?.record.signed)?;
     }
     Ok(all)
 }
