@@ -6,8 +6,22 @@ ghost use Rattle.engine.specs.Steps.{file_record as file_step, amend_record as a
 use crate::engine::Engine;
 use crate::faults::EngineFault;
 use crate::steps::Recorded;
-use codec::reader::read;
-use filing::draft::Draft;
+use codec::record::Record;
+
+impl Recorded {
+    /// A record and the number of its filing.
+    fn of(read: &Record, number: u64) -> Recorded
+        ensures used { result.used ≡ read.now.used }
+        ensures version { result.version ≡ read.now.version }
+        ensures number { result.number ≡ number }
+    {
+        Recorded {
+            used: read.used,
+            version: read.version,
+            number,
+        }
+    }
+}
 
 // The two differ in one call of the register. With that call as a closure, a third function would need clauses that
 // say what the closure does to the register and answers, and the two would each still need their own.
@@ -17,14 +31,9 @@ impl Engine {
         ensures laws { Steps self.old self.new (file_step bytes.now) (record_answered result) }
         ensures refused { OnErr result (self.new ≡ self.old) }
     {
-        let mut signed = Draft::blank().sign();
-        let (used, version) = read(bytes, &mut signed)?;
-        let number = self.register.file(signed)?;
-        Ok(Recorded {
-            used,
-            version,
-            number,
-        })
+        let record = Record::read(bytes)?;
+        let number = self.register.file(record.signed)?;
+        Ok(Recorded::of(&record, number))
     }
 
     /// Reads the record at the front of `bytes` and amends by it.
@@ -32,13 +41,8 @@ impl Engine {
         ensures laws { Steps self.old self.new (amend_step bytes.now) (record_answered result) }
         ensures refused { OnErr result (self.new ≡ self.old) }
     {
-        let mut signed = Draft::blank().sign();
-        let (used, version) = read(bytes, &mut signed)?;
-        let amended = self.register.amend(signed)?;
-        Ok(Recorded {
-            used,
-            version,
-            number: amended,
-        })
+        let record = Record::read(bytes)?;
+        let amended = self.register.amend(record.signed)?;
+        Ok(Recorded::of(&record, amended))
     }
 }

@@ -1,37 +1,13 @@
-use Rattle.std.proofs.Common.{Ok, Err, refl}
-use Rattle.std.proofs.lemmas.Result.{err_from_is_err_and}
-use Rattle.filing.specs.Views.{filed}
+use Rattle.std.proofs.Common.{Ok, Err, rules}
 use Rattle.register.specs.Calls.{file}
-use Rattle.engine.specs.Engine.{engine_meaning}
-use Rattle.engine.specs.Steps.{calls_of}
-use Rattle.engine.proofs.Recorded.{unread_step, read_step, engine_same}
+use Rattle.engine.proofs.Recorded.{unread_steps, read_steps}
 use Rattle.engine.proofs.engine.Engine.file_record.Goals as goal
 
-pub returns-in_err-used : goal.returns-in_err-used
-returns-in_err-used c =
-    let p = err_from_is_err_and c.from_residual.result c.from_residual.ensures.1 in
-    rw (p.1, p.2)
-    (record {
-      laws = λ m ss L. unread_step engine_meaning file c.args.bytes.now m (calls_of ss) c.args.self.now.register _ c.in_err-used.ensures.says.0 L;
-      refused = refl;
-    })
+pub returns-in_err-record-clause-laws : goal.returns-in_err-record-clause-laws
+returns-in_err-record-clause-laws c = unread_steps file c.args.bytes.now c.in_err-record.ensures.says (search rules)
 
-pub returns-in_err-number : goal.returns-in_err-number
-returns-in_err-number c =
-    let p = err_from_is_err_and c.from_residual-in_err-number.result c.from_residual-in_err-number.ensures.1 in
-    rw (p.1, p.2)
-    (record {
-      laws = λ m ss L.
-          read_step engine_meaning file c.args.bytes.now m (calls_of ss) c.args.self.now.register c.file.new.self c.in_ok-used.used c.in_ok-used.version (filed c.read.new.into) (Err _)
-          c.in_ok-used.ensures.says c.in_err-number.ensures.lives L;
-      refused = engine_same c.args.self.now _ c.in_err-number.ensures.refused;
-    })
+pub returns-in_err-number-clause-laws : goal.returns-in_err-number-clause-laws
+returns-in_err-number-clause-laws c = read_steps file c.args.bytes.now (Err c.in_err-number.field-0.0) c.in_ok-record.ensures.says (search rules) c.in_err-number.ensures.lives
 
-pub returns : goal.returns
-returns c =
-    record {
-      laws = λ m ss L.
-          read_step engine_meaning file c.args.bytes.now m (calls_of ss) c.args.self.now.register c.file.new.self c.in_ok-used.used c.in_ok-used.version (filed c.read.new.into) (Ok c.in_ok-number.number)
-          c.in_ok-used.ensures.says c.in_ok-number.ensures.lives L;
-      refused = tt;
-    }
+pub returns-clause-laws : goal.returns-clause-laws
+returns-clause-laws c = read_steps file c.args.bytes.now (Ok c.in_ok-number.number) c.in_ok-record.ensures.says (search rules) c.in_ok-number.ensures.lives
