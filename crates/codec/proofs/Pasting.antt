@@ -118,3 +118,8 @@ module _ (v : ℕ) (row : List ℕ) (f : FilingFields) (heads lines many : ℕ) 
 
 pub same_record : (v : ℕ) (row : List ℕ) {f g : FilingFields} → v ≡ written_version → row ≡ written_row → f ≡ g → record_of v row f ≡ written g
 same_record v row {f} {g} a b c = ap (λ u. record_of u row f) a ∙ ap (λ r. record_of written_version r f) b ∙ ap written c
+
+pub length_written : {v heads lines many : ℕ} {row head line : List ℕ} {f g : FilingFields} → v ≡ written_version → row ≡ written_row → g ≡ f → head ≡ head_codes row → heads ≡ 8 * length head → line ≡ line_codes row → lines ≡ 8 * length line
+    → many ≡ length g.lines → 6 + length row + heads + 1 + lines * many ≡ length (written f)
+length_written {v} {heads} {lines} {many} {row} {g = g} vs rs fs hc hs lc ls ms =
+    length_record v row g heads lines many (hs ∙ ap (λ cs. 8 * length cs) hc) (ls ∙ ap (λ cs. 8 * length cs) lc) ms ∙ ap length (same_record v row vs rs fs)

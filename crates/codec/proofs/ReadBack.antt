@@ -12,12 +12,16 @@ use Rattle.filing.specs.Kinds.{kind_of}
 use Rattle.filing.specs.Ranges.{head_numbers, head_ranges, line_numbers, line_ranges, first_outside}
 use Rattle.filing.specs.Sound.{InRange, LineInRange, Sound}
 use Rattle.filing.specs.Told.{Told}
+use Rattle.filing.specs.Views.{fields_of, filed}
 use Rattle.filing.specs.declared.fields.HeadFields.{HeadFields}
 use Rattle.filing.specs.declared.fields.LineFields.{LineFields}
+use Rattle.filing.specs.declared.filing.Filing.{Filing}
+use Rattle.filing.specs.declared.signed.Signed.{Signed}
 use Rattle.filing.specs.declared.kinds.LineKind.{LineKind}
 use Rattle.filing.specs.declared.kinds.LineKind.TheVariants.{Numerical, Calculated, Gaseous}
 use Rattle.filing.proofs.Refusing.{refused_none}
 use Rattle.codec.specs.Fields.{head_of, line_of, head_field}
+use Rattle.codec.specs.Laws.{ReadsBack}
 use Rattle.codec.specs.Reading.{part, opening, schema, headed, counted, lined, body, reading}
 use Rattle.codec.specs.Table.{head_codes, line_codes, written_version, written_row}
 use Rattle.codec.specs.Writing.{field_bytes, line_bytes, opening_bytes, written}
@@ -180,3 +184,7 @@ module _ (f : FilingFields) (rest : List ℕ) (s : Sound f) where
 
 pub read_back : (f : FilingFields) (rest : List ℕ) → Sound f → reading (written f ++ rest) ≡ Ok (length (written f), written_version, f)
 read_back f rest s = whole_back f rest s ∙ ap (λ n. Ok (n, written_version, f)) (length_record written_version written_row f 56 56 (length f.lines) refl refl refl)
+
+-- what is signed is sound, so it is read back
+pub signed_back : (s : Signed) (r : Filing) → r ≡ s.filing → Sound (fields_of r) → ReadsBack (filed s) (written (filed s))
+signed_back s r is sound rest = read_back (filed s) rest (subst (λ (g : Filing). Sound (fields_of g)) is sound)

@@ -70,6 +70,7 @@ impl Output<'_> {
 
 /// Writes the record of a filing to the front of the buffer, and answers how many bytes it has.
 /// No byte beyond it is touched, and a buffer that is too small is left as it was.
+#[tactic(auto, using(crate::proofs::ReadBack::signed_back))]
 pub fn write(filing: &Signed, buffer: &mut [u8]) -> Result<usize, WriteFault>
     ensures says { Written result (written_of (filed filing.now)) buffer.old buffer.new }
     ensures back { ReadsBack (filed filing.now) (written_of (filed filing.now)) }
