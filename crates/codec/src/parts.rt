@@ -37,6 +37,7 @@ pub(crate) fn opening(bytes: &[u8]) -> Result<u16, ReadFault>
 }
 
 /// Compares the schema with the row of the version.
+#[tactic(auto, using(crate::proofs::Steps::schema_passed))]
 pub(crate) fn schema(row: Codes, input: &mut Input<'_>) -> Result<(), ReadFault>
     requires { input.old.at ≡ 5 }
     ensures { Took (λ x. x) result (schema_of row.list.now input.old.bytes.now) input.old input.new (6 + length row.list.now) }
@@ -75,6 +76,7 @@ fn counted(input: &mut Input<'_>) -> Result<usize, ReadFault>
 }
 
 /// Adds the lines that stand next.
+#[tactic(auto, using(crate::proofs::Steps::lined_cut))]
 fn lined(
     codes: Codes,
     count: usize,
@@ -93,6 +95,7 @@ fn lined(
 }
 
 /// The filing, from the head on.
+#[tactic(auto, using(crate::proofs::Steps::body_count, crate::proofs::Steps::body_lines))]
 pub(crate) fn body(row: Codes, input: &mut Input<'_>) -> Result<Signed, ReadFault>
     requires { input.old.at ≡ head_at row.list.now }
     ensures { Says (λ signed. (input.new.at, filed signed)) result (body_of row.list.now input.old.bytes.now) }

@@ -2,16 +2,8 @@ use Rattle.std.proofs.Common.{sym, ap, ◌∙◌}
 use Rattle.std.proofs.lemmas.Result.{err_from_is_err_and}
 use Rattle.filing.specs.Checks.{adding}
 use Rattle.filing.specs.Views.{drafted}
-use Rattle.codec.proofs.Steps.{lined_cut, lined_refused, lined_more}
+use Rattle.codec.proofs.Steps.{lined_refused, lined_more}
 use Rattle.codec.proofs.parts.lined.Goals as goal
-
-pub returns-in_err-bytes : goal.returns-in_err-bytes
-returns-in_err-bytes c =
-    let p = err_from_is_err_and c.from_residual.result c.from_residual.ensures.1 in
-    let s = c.loop-line in
-    rw (p.1, p.2)
-    (sym s.invariant
-    ∙ lined_cut c.args.codes.list.now c.args.count s._line s.input.at c.size-size.result s.input.bytes.now (drafted s.full) c.size-size.ensures c.loop-line-test.true _ c.in_err-bytes.ensures.says)
 
 pub returns-in_err-add_line : goal.returns-in_err-add_line
 returns-in_err-add_line c =
