@@ -45,7 +45,7 @@ pub fn run(
 {
     let mut answers = Vec::with_capacity(heap, steps.len())?;
     let mut engine = Engine::new(heap)?;
-    // No chain, whose closure would change the engine: a chain says nothing of that.
+    // No chain: its closure would change the engine, and a chain says nothing of what its closure changes.
     for step in steps {
         answers.push_reserved(engine.perform(*step));
     }

@@ -1,5 +1,5 @@
-use Rattle.std.proofs.Common.{◌≡◌, List, [], length, get_or, take, vec_items, sym, ap, ◌∙◌, subst, arith, rules}
-use Rattle.std.proofs.lemmas.List.{take_all, get_or_read}
+use Rattle.std.proofs.Common.{List, [], get_or, take, vec_items, sym, ap, ◌∙◌, subst, arith, rules}
+use Rattle.std.proofs.lemmas.List.{get_or_read}
 use Rattle.register.proofs.Telling.{told_more, each_more}
 use Rattle.register.proofs.Wholes.{laws_of}
 use Rattle.engine.specs.Engine.{engine_meaning, engine_method, step_fields, step_answered, steps_of, EngineLaws}
@@ -26,14 +26,3 @@ loop-step-preserved c =
           (p.1 ∙ ap (λ (y : Step). step_answer (engine_meaning engine_method) (step_fields y) (steps_of (take i xs))) (get_or_read xs i x c.loop-step-test.true c.step-item.is d))
           (λ j b lt'. c.loop-step.invariant.3 j d b lt') k a lt,
     )
-
-pub returns : goal.returns
-returns c =
-    let xs = c.args.steps.now in
-    let i = c.loop-step.step-index in
-    let all : c.loop-step.step-index ≡ length c.args.steps.now = omega (arith, c.loop-step.auto.step-index-end, c.loop-step-test.false) in
-    record {
-      laws = subst (λ (l : List Step). EngineLaws engine_method (steps_of l) c.loop-step.engine) (take_all i xs c.loop-step-test.false) c.loop-step.invariant.0;
-      all = sym c.loop-step.answers.ok.0 ∙ c.loop-step.invariant.1 ∙ all;
-      each = λ k d a lt. c.loop-step.invariant.3 k d a (omega arith);
-    }
