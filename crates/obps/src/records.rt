@@ -108,8 +108,7 @@ fn append(all: &mut Vec<u8>, signed: &Signed) -> Result<(), Failure> {
     // The codec's `write` fills a buffer of its caller's, and takes no memory of its own.
     let mut buffer = [0u8; ROOM];
     let length = write(signed, &mut buffer).map_err(|_| Failure::Room)?;
-    let record = buffer.get(..length).ok_or(Failure::Room)?;
-    Ok(all.extend_from_slice(record)?)
+    Ok(all.extend_from_slice(&buffer[..length])?)
 }
 
 /// Puts bytes into a file, by way of a new file beside it, so that the old one stays whole until the new one is.

@@ -46,7 +46,7 @@ fn compare(rt: &HostRuntime, sample: Sample) -> anyhow::Result<()> {
 }
 
 fn compare_all(rt: &HostRuntime) -> anyhow::Result<()> {
-    let make = env::args(rt)?.skip(1).count() > 0;
+    let make = env::args(rt)?.nth(1).is_some();
     for sample in samples() {
         if make {
             fs::write(rt, sample.name, &file(rt.alloc(), sample)?)?;

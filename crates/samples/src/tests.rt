@@ -48,9 +48,9 @@ fn cut_at_every_length(rt: HostRuntime) -> Result<(), Fail> {
         let whole = record(heap, sample)?;
         let version = sample.version;
         let length = whole.len();
-        for k in 0..whole.len() {
+        for k in 0..length {
             let expected = format!(in heap; "1 cut length {k}")?;
-            assert_eq!(rt; answer(heap, &whole[0..k])?.as_str(), expected.as_str());
+            assert_eq!(rt; answer(heap, &whole[..k])?.as_str(), expected.as_str());
         }
         let expected = format!(in heap; "{length} bytes in version {version}")?;
         assert_eq!(rt; answer(heap, &whole)?.as_str(), expected.as_str());
@@ -143,16 +143,16 @@ fn order_and_place(rt: HostRuntime) -> Result<(), Fail> {
     let whole = record(heap, sample)?;
     assert!(rt; whole.len() == 189);
     assert_eq!(rt;
-        answer_with(heap, &whole[0..76], 20, &9u64.to_be_bytes())?.as_str(),
+        answer_with(heap, &whole[..76], 20, &9u64.to_be_bytes())?.as_str(),
         "5 range code 1 line 0"
     );
     let mut signed = Draft::blank().sign();
     assert!(rt; read(&whole, &mut signed).is_ok());
-    assert!(rt; read(&whole[0..188], &mut signed).is_err());
+    assert!(rt; read(&whole[..188], &mut signed).is_err());
     assert_eq!(rt; signed.filing().count(), 2);
     let mut buffer = [7u8; 200];
     assert!(rt; write(&signed, &mut buffer).is_ok());
-    assert!(rt; buffer[0..189] == whole[0..189] && buffer[189] == 7 && buffer[199] == 7);
+    assert!(rt; buffer[..189] == whole[..189] && buffer[189] == 7 && buffer[199] == 7);
     let mut small = [7u8; 188];
     assert!(rt; write(&signed, &mut small).is_err());
     assert!(rt; small[0] == 7 && small[187] == 7);
