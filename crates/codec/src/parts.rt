@@ -14,9 +14,6 @@ use filing::fields::{HeadFields, LineFields};
 use filing::filing::MOST_LINES;
 use filing::signed::Signed;
 
-/// The bytes that every record begins with.
-pub(crate) const MARK: &[u8; 3] = b"OBF";
-
 /// Where the count of the schema's codes stands.
 pub(crate) const COUNT_AT: usize = 5;
 
@@ -26,12 +23,13 @@ pub(crate) fn opening(bytes: &[u8]) -> Result<u16, ReadFault>
     ensures long { IfOk result (λ v. 5 ≤ length bytes.now) }
 {
     let length = bytes.len();
-    let [a, b, c, rest @ ..] = bytes else {
-        return Err(ReadFault::Cut { length });
-    };
-    if [*a, *b, *c] != *MARK {
+    // The project asks for this pattern. It can name no array, so the writer says the mark once more.
+    let [0x4F, 0x42, 0x46, rest @ ..] = bytes else {
+        if length < 3 {
+            return Err(ReadFault::Cut { length });
+        }
         return Err(ReadFault::Mark);
-    }
+    };
     let version = rest.first_chunk().ok_or(ReadFault::Cut { length })?;
     Ok(u16::from_be_bytes(*version))
 }

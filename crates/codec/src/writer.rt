@@ -8,7 +8,6 @@ ghost use Rattle.codec.specs.Writing.{field_bytes, line_bytes, opening_bytes, wr
 
 use crate::faults::WriteFault;
 use crate::fields::Coded;
-use crate::parts::MARK;
 use crate::table::{Codes, Row, written};
 use filing::fields::{HeadFields, LineFields};
 use filing::parts::Line;
@@ -41,7 +40,7 @@ impl Output<'_> {
         requires { self.old.at + (6 + length row.codes.list.now) ≤ length self.old.buffer.now }
         ensures { Put self.old self.new (opening_bytes row.version row.codes.list.now) }
     {
-        self.put(MARK);
+        self.put(b"OBF");
         self.put(&row.version.to_be_bytes());
         self.put(&[row.codes.list.len() as u8]);
         self.put(row.codes.list);
