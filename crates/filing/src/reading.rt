@@ -1,5 +1,6 @@
 //! What can be read of a filing, drafted or signed.
-ghost use Rattle.std.specs.Prelude.{◌≡◌, map, length, take};
+ghost use Rattle.std.specs.Prelude.{◌≡◌, ◌≤◌, map, length, take};
+ghost use Rattle.filing.specs.Checks.{most_lines};
 ghost use Rattle.filing.specs.Emissions.{total as total_of, emissions as emissions_of};
 ghost use Rattle.filing.specs.Filing.{attributed_sum};
 ghost use Rattle.filing.specs.Parts.{head_fields, line_fields};
@@ -22,6 +23,7 @@ impl Filing {
     pub fn lines(&self) -> &[Line]
         ensures fields { map line_fields result.now ≡ (fields_of self.now).lines }
         ensures kept { result.now ≡ take self.now.count self.now.lines }
+        ensures few { length result.now ≤ most_lines }
     {
         &self.lines[..self.count]
     }

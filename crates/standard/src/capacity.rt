@@ -8,7 +8,6 @@ ghost use Rattle.standard.specs.Places.{filing_at};
 ghost use Rattle.standard.specs.Seen.{lines_of, seen};
 
 use crate::facility::FacilityYear;
-use crate::kept::lines_of;
 use crate::places::up_to;
 use crate::units::Capacity;
 use filing::filing::Filing;
@@ -45,7 +44,8 @@ impl UnitYear {
     fn triggering(self, filing: &Filing) -> u64
         ensures { result ≡ sum_by (λ l. l.added.mw) (filter (λ l. of_unit self.unit (dated self.year (line_fields l)) && triggers_in (dated self.year (line_fields l))) (lines_of filing.now)) }
     {
-        lines_of(filing)
+        filing
+            .lines()
             .iter()
             .filter(|line| line.is(LineKind::Gaseous, self.unit) && triggers(line, self.year))
             .map(|line| line.added.mw)
@@ -56,7 +56,8 @@ impl UnitYear {
     fn other(self, filing: &Filing) -> u64
         ensures { result ≡ sum_by (λ l. l.added.mw) (filter (λ l. of_unit self.unit (dated self.year (line_fields l)) && not (triggers_in (dated self.year (line_fields l)))) (lines_of filing.now)) }
     {
-        lines_of(filing)
+        filing
+            .lines()
             .iter()
             .filter(|line| line.is(LineKind::Gaseous, self.unit) && !triggers(line, self.year))
             .map(|line| line.added.mw)

@@ -9,7 +9,6 @@ ghost use Rattle.standard.specs.Reference.{of_activity};
 ghost use Rattle.standard.specs.Seen.{lines_of, seen};
 
 use crate::activity::Activity;
-use crate::kept::lines_of;
 use crate::units::ReferenceYear;
 use filing::filing::Filing;
 use filing::kinds::LineKind;
@@ -20,7 +19,8 @@ impl Activity<'_> {
     fn is_in(self, filing: &Filing) -> bool
         ensures { result ≡ list_any (λ l. of_activity self.entry.number (line_fields l)) (lines_of filing.now) }
     {
-        lines_of(filing)
+        filing
+            .lines()
             .iter()
             .any(|line| line.is(LineKind::Calculated, self.number))
     }
@@ -29,7 +29,8 @@ impl Activity<'_> {
     fn other_kg(self, filing: &Filing) -> u64
         ensures { result ≡ sum_by (λ l. l.attributed.kg) (filter (λ l. not (of_activity self.entry.number (line_fields l))) (lines_of filing.now)) }
     {
-        lines_of(filing)
+        filing
+            .lines()
             .iter()
             .filter(|line| !line.is(LineKind::Calculated, self.number))
             .map(|line| line.attributed.kg)
@@ -40,7 +41,8 @@ impl Activity<'_> {
     fn own_production(self, filing: &Filing) -> u64
         ensures { result ≡ sum_by (λ l. l.production.thousandths) (filter (λ l. of_activity self.entry.number (line_fields l)) (lines_of filing.now)) }
     {
-        lines_of(filing)
+        filing
+            .lines()
             .iter()
             .filter(|line| line.is(LineKind::Calculated, self.number))
             .map(|line| line.production.thousandths)

@@ -12,7 +12,6 @@ pub mod decreasing;
 pub mod facility;
 mod figures;
 mod gaseous;
-mod kept;
 pub mod places;
 pub mod reference;
 pub mod units;
