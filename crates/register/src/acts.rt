@@ -6,7 +6,7 @@ ghost use Rattle.register.specs.Calls.{enrol as enrol_call, file as file_call, a
 ghost use Rattle.register.specs.Lived.{Lived, Lives};
 
 use crate::log::UndoLog;
-use crate::places::{EnrolledPlace, Place, facility_index};
+use crate::places::{EnrolledPlace, Place, index_from};
 use crate::refusals::Refusal;
 use crate::table::{Plant, Register};
 use enrolment::enrolment::Enrolment;
@@ -23,7 +23,7 @@ impl<M: LimitMethod> Register<M> {
         ensures refused { OnErr result (self.new ≡ self.old) }
     {
         let enrolment = Enrolment::try_from(fields)?;
-        let i = facility_index(u64::from(enrolment.facility));
+        let i = index_from(1, u64::from(enrolment.facility));
         if self.plants[i].enrolment.is_some() {
             return Err(Refusal::Enrolled);
         }

@@ -9,10 +9,10 @@ ghost use Rattle.standard.specs.Places.{filings, standing};
 ghost use Rattle.register.specs.Answers.{assessment};
 ghost use Rattle.register.specs.Views.{assessment_fields, anew_of, anew};
 
-use crate::places::year_index;
+use crate::places::index_from;
 use crate::table::Assessment;
 use filing::filing::Filing;
-use filing::places::{LAST_YEAR, YEARS};
+use filing::places::{FIRST_YEAR, LAST_YEAR, YEARS};
 use limit::balance::balance;
 use limit::method::LimitMethod;
 use limit::outcome::Outcome;
@@ -52,6 +52,6 @@ pub(crate) fn reassess<M: LimitMethod>(
     ensures after { (k : ℕ) → at.entry.year ≤ 2017 + k → k < 20 → option_map assessment_fields (slice_index_or assessed.new k none) ≡ anew (M.LimitMethod.meaning method.now) (enrolled at.entry.enrolment.now) (filings at.entry.places.now) k number }
 {
     for year in at.year..=LAST_YEAR {
-        assessed[year_index(year)] = fresh(method, FacilityYear { year, ..at }, number);
+        assessed[index_from(FIRST_YEAR, year)] = fresh(method, FacilityYear { year, ..at }, number);
     }
 }

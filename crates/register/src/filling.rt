@@ -4,9 +4,10 @@ ghost use Rattle.register.specs.Steps.{Put, Acted, Refilled, NextNumber};
 
 use crate::assess::reassess;
 use crate::log::{Entry, MOST_ACTS};
-use crate::places::{EnrolledPlace, facility_index, year_index};
+use crate::places::{EnrolledPlace, index_from};
 use crate::refusals::Refusal;
 use crate::table::{Plant, Register};
+use filing::places::FIRST_YEAR;
 use filing::signed::Signed;
 use limit::method::LimitMethod;
 use standard::facility::FacilityYear;
@@ -25,7 +26,7 @@ impl Plant {
     )
         ensures { Refilled (M.LimitMethod.meaning method.now) self.old self.new (at.now.place.year - 2017) at.now.enrolment content number }
     {
-        self.places[year_index(at.place.year)] = content;
+        self.places[index_from(FIRST_YEAR, at.place.year)] = content;
         let from = FacilityYear {
             enrolment: &at.enrolment,
             places: &self.places,
@@ -51,7 +52,7 @@ impl<M: LimitMethod> Register<M> {
     pub(crate) fn put(&mut self, at: EnrolledPlace, content: Option<Signed>, number: u64)
         ensures { Put M.LimitMethod.meaning self.old self.new at.place.facility at.place.year at.enrolment content number }
     {
-        let f = facility_index(at.place.facility);
+        let f = index_from(1, at.place.facility);
         self.plants[f].refill(&self.method, &at, content, number);
         self.used = number;
     }

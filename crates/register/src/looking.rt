@@ -8,11 +8,10 @@ ghost use Rattle.register.specs.declared.refusals.Refusal.TheVariants.{Unknown};
 ghost use Rattle.register.specs.Steps.{Sought, SoughtAt, StandsAt};
 ghost use Rattle.register.specs.Views.{shown_at, Looked, look_answer};
 
-use crate::places::{EnrolledPlace, Place, facility_index};
+use crate::places::{EnrolledPlace, Place, index_from};
 use crate::refusals::Refusal;
 use crate::table::{Assessment, Plant, Register};
 use enrolment::enrolment::Enrolment;
-use filing::places::FACILITIES;
 use filing::signed::Signed;
 use limit::method::LimitMethod;
 use standard::places::at_year;
@@ -22,10 +21,8 @@ impl<M: LimitMethod> Register<M> {
     fn plant_of(&self, facility: u64) -> Result<&Plant, Refusal>
         ensures { MatchResult result (λ p. (1 ≤ facility) × (facility ≤ 4) × (p.now ≡ slice_index_or self.now.plants (facility - 1) p.now)) (λ w. (w ≡ Unknown) × (1 ≤ facility → facility ≤ 4 → ⊥)) }
     {
-        if !(1..=FACILITIES).contains(&facility) {
-            return Err(Refusal::Unknown);
-        }
-        Ok(&self.plants[facility_index(facility)])
+        let i = facility.checked_sub(1).ok_or(Refusal::Unknown)?;
+        self.plants.get(i as usize).ok_or(Refusal::Unknown)
     }
 
     /// The enrolment of a facility, which may be any number.
@@ -47,7 +44,7 @@ impl<M: LimitMethod> Register<M> {
     pub(crate) fn standing(&self, place: Place) -> Option<Signed>
         ensures { StandsAt self.now place.facility place.year result }
     {
-        let plant = &self.plants[facility_index(place.facility)];
+        let plant = &self.plants[index_from(1, place.facility)];
         at_year(&plant.places, place.year).copied()
     }
 

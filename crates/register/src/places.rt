@@ -7,22 +7,12 @@ use enrolment::enrolment::Enrolment;
 use filing::places::{FACILITIES, FIRST_YEAR, LAST_YEAR};
 use filing::signed::Signed;
 
-/// Where one of the four facilities stands among them.
-pub(crate) fn facility_index(facility: u64) -> usize
-    requires { (1 ≤ facility) × (facility ≤ 4) }
-    ensures value { result ≡ facility - 1 }
-    ensures within { result < 4 }
+/// Where a facility or a year stands among those from the first on.
+pub(crate) fn index_from(first: u64, n: u64) -> usize
+    requires { first ≤ n }
+    ensures { result ≡ n - first }
 {
-    (facility - 1) as usize
-}
-
-/// Where one of the twenty years stands among them.
-pub(crate) fn year_index(year: u64) -> usize
-    requires { (2017 ≤ year) × (year ≤ 2036) }
-    ensures value { result ≡ year - 2017 }
-    ensures within { result < 20 }
-{
-    (year - FIRST_YEAR) as usize
+    (n - first) as usize
 }
 
 /// A place of the table: one of the four facilities, and one of the twenty years.

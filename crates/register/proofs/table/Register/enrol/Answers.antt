@@ -19,9 +19,9 @@ returns-clause-lives g c =
     let four : length r.plants ≡ 4 = search rules in
     let within : e.facility - 1 < length r.plants = omega arith in
     let read = sym c.is_some.ensures ∙ c.if-is_some.false in
-    let here = rw (c.facility_index-i.ensures.value, c.from.ensures) at read in
+    let here = rw (c.index_from-i.ensures, c.from.ensures) at read in
     let gone = sym (ap (λ (d : Plant). is_some d.enrolment) (get_or_default r.plants i c.index-self-i.result p within)) ∙ here in
-    rw (c.facility_index-i.ensures.value, c.from.ensures)
+    rw (c.index_from-i.ensures, c.from.ensures)
     (λ m cs L.
     enrolled_once g.M.LimitMethod.meaning m r c.args.fields cs L e made.0 made.1 _
     (enrolled_as_read g.M.LimitMethod.meaning m r (accepted cs) L e.facility e.facility_range.0 e.facility_range.1 p _ gone)
