@@ -8,10 +8,10 @@ use Rattle.enrolment.specs.declared.enrolment.Enrolment.{Enrolment}
 use Rattle.limit.specs.Laws.{Meaning, Later}
 use Rattle.standard.specs.Places.{Places, filing_at, standing}
 use Rattle.register.specs.Acceptance.{Check, first_of, checks, unknown, book_full, spent, refusal_of, accepted}
-use Rattle.register.specs.Answers.{refused, numbered, granted, answer_by, answer_to, number_answer}
+use Rattle.register.specs.Answers.{refused, numbered, granted, answer_by, number_answer}
 use Rattle.register.specs.Calls.{CallFields, file, amend, withdraw, Act, filing_act, withdrawal, Event, acts, event_of}
 use Rattle.register.specs.History.{standing_at, places_of, enrolment_of, numbers}
-use Rattle.register.specs.Lived.{Holds, Lived, Lives}
+use Rattle.register.specs.Lived.{Holds, Lived, LivesAnswering}
 use Rattle.register.specs.Refusals.{refusal_told}
 use Rattle.register.specs.Steps.{EnrolledBy, Absent, StandsAt, Acted}
 use Rattle.register.specs.declared.places.Place.{Place}
@@ -79,14 +79,14 @@ pub record ActsOn (c : CallFields) (a : Act) (bars : Bool → Bool) (w : Refusal
   pub grants : (meaning : Meaning) (es : List Event) → granted meaning c es ≡ numbered (numbers es + 1)
 
 module _ {M : Type 0} (μ : M → Meaning) (r : Register M) {c : CallFields} {a : Act} {bars : Bool → Bool} {w : Refusal} (on : ActsOn c a bars w) where
-  answered_refused : (v : Refusal) → ((m : M) (cs : List CallFields) → Lived μ m r cs → refusal_of c (accepted cs) ≡ Some v) → Lives μ r r c (λ m cs. refused (refusal_told v) ≡ answer_to (μ m) c cs)
+  answered_refused : (v : Refusal) → ((m : M) (cs : List CallFields) → Lived μ m r cs → refusal_of c (accepted cs) ≡ Some v) → LivesAnswering μ r r c (refused (refusal_told v))
   answered_refused v why m cs L =
       (refused_lives μ m r c cs v (why m cs L) L, sym (ap (λ o. answer_by o (granted (μ m) c (accepted cs))) (why m cs L)))
 
   abbrev second : List Event → Check
   second es = (bars (is_some (standing_at es a.facility a.year)), w)
 
-  pub asked_unknown : Absent r a.facility → Lives μ r r c (λ m cs. refused (refusal_told Unknown) ≡ answer_to (μ m) c cs)
+  pub asked_unknown : Absent r a.facility → LivesAnswering μ r r c (refused (refusal_told Unknown))
   asked_unknown absent =
       answered_refused Unknown
       (λ m cs L.
@@ -99,13 +99,13 @@ module _ {M : Type 0} (μ : M → Meaning) (r : Register M) {c : CallFields} {a 
         let es = accepted cs in
         ap first_of (on.asks es) ∙ check_passes (unknown es a.facility) (second es ∷ book_full es ∷ spent es ∷ []) (ap not (by_enrolled μ m r es L a.facility e by))
 
-    asked_second : (b : Bool) → bars b ≡ true → ((m : M) (cs : List CallFields) → Lived μ m r cs → is_some (standing_at (accepted cs) a.facility a.year) ≡ b) → Lives μ r r c (λ m cs. refused (refusal_told w) ≡ answer_to (μ m) c cs)
+    asked_second : (b : Bool) → bars b ≡ true → ((m : M) (cs : List CallFields) → Lived μ m r cs → is_some (standing_at (accepted cs) a.facility a.year) ≡ b) → LivesAnswering μ r r c (refused (refusal_told w))
     asked_second b barred is =
         answered_refused w
         (λ m cs L. let es = accepted cs in passed m cs L ∙ check_holds (second es) (book_full es ∷ spent es ∷ []) (ap bars (is m cs L) ∙ barred))
 
     -- there is no such place
-    pub asked_nowhere : bars false ≡ true → (between 1 4 a.facility ≡ true → between 2017 2036 a.year ≡ false) → Lives μ r r c (λ m cs. refused (refusal_told w) ≡ answer_to (μ m) c cs)
+    pub asked_nowhere : bars false ≡ true → (between 1 4 a.facility ≡ true → between 2017 2036 a.year ≡ false) → LivesAnswering μ r r c (refused (refusal_told w))
     asked_nowhere barred out = asked_second false barred (λ m cs L. no_place μ m r (accepted cs) L a.facility e by a.year out)
 
     module _ (p : Option Signed) (stands : StandsAt r a.facility a.year p) where
@@ -113,11 +113,11 @@ module _ {M : Type 0} (μ : M → Meaning) (r : Register M) {c : CallFields} {a 
       as_read m cs L = stands_as_read μ m r (accepted cs) L a.facility e by a.year p stands (is_some p) refl
 
       -- what stands there, or that nothing does, bars the call
-      pub asked_barred : bars (is_some p) ≡ true → Lives μ r r c (λ m cs. refused (refusal_told w) ≡ answer_to (μ m) c cs)
+      pub asked_barred : bars (is_some p) ≡ true → LivesAnswering μ r r c (refused (refusal_told w))
       asked_barred barred = asked_second (is_some p) barred as_read
 
       -- nothing refuses the act but the undo log and the numbers
-      pub asked_acts : ((m : M) → Later (μ m)) → (s : Register M) → 2017 ≤ a.year → a.year ≤ 2036 → bars (is_some p) ≡ false → (v : Option Signed) → filing_at v ≡ a.leaves → (ans : Result ℕ Refusal) → Acted μ r s a.facility a.year e p v ans → Lives μ r s c (λ m cs. number_answer ans ≡ answer_to (μ m) c cs)
+      pub asked_acts : ((m : M) → Later (μ m)) → (s : Register M) → 2017 ≤ a.year → a.year ≤ 2036 → bars (is_some p) ≡ false → (v : Option Signed) → filing_at v ≡ a.leaves → (ans : Result ℕ Refusal) → Acted μ r s a.facility a.year e p v ans → LivesAnswering μ r s c (number_answer ans)
       asked_acts later s low high free v v-is ans did m cs L =
           let es = accepted cs in
           let left = passed m cs L ∙ check_passes (second es) (book_full es ∷ spent es ∷ []) (ap bars (as_read m cs L) ∙ free) in

@@ -1,16 +1,16 @@
 -- A take-back: the register holds what the events and the take-back say.
 use Rattle.std.proofs.Common.{◌≡◌, ℕ, suc, ◌+◌, ◌<◌, List, [], ◌∷◌, ◌++◌, map, length, is_some, None, vec_items, vec_len, sym, refl, ap, ◌∙◌, subst, arith}
 use Rattle.std.specs.List.{AllByRecursion}
-use Rattle.std.proofs.lemmas.List.{same_from_push, map-append}
+use Rattle.std.proofs.lemmas.List.{same_from_push, map-append, length-append}
 use Rattle.std.proofs.lemmas.Bool.{true≢false}
 use Rattle.enrolment.specs.declared.enrolment.Enrolment.{Enrolment}
 use Rattle.limit.specs.Laws.{Meaning, Later}
 use Rattle.standard.specs.Places.{filing_at}
 use Rattle.register.specs.Acceptance.{refusal_of, bare, spent, accepted}
-use Rattle.register.specs.Answers.{numbered, granted, answer_by, answer_to}
+use Rattle.register.specs.Answers.{numbered, granted, answer_by}
 use Rattle.register.specs.Calls.{take_back, Act, Event, takes_back}
 use Rattle.register.specs.History.{left_by, enrolment_of, numbers}
-use Rattle.register.specs.Lived.{Holds, Known, logged_acts, Lives}
+use Rattle.register.specs.Lived.{Holds, Known, logged_acts, LivesAnswering}
 use Rattle.register.specs.Steps.{Refit, EnrolledBy, Absent}
 use Rattle.register.specs.Striking.{undo_log, closed_acts}
 use Rattle.register.specs.Views.{Logged, logged}
@@ -53,8 +53,8 @@ module _ {M : Type 0} (μ : M → Meaning) (m : M) (r : Register M) (es : List E
         let here : entry.place.facility ≡ newest.0.facility = ap (λ (l : Logged). l.facility) lines.1 in
         true≢false (sym (ap (λ (f : ℕ). is_some (enrolment_of es f)) here ∙ known_all.0.is_enrolled) ∙ ap is_some (absent_none μ m r es H entry.place.facility absent))
 
-    taken_holds : ((m : M) → Later (μ m)) → (s : Register M) → vec_items s.log.entries ≡ rest → vec_len s.log.entries + 1 ≡ vec_len r.log.entries → (e : Enrolment) → EnrolledBy r entry.place.facility e → (n : ℕ) → n ≡ r.used + 1 → s.used ≡ n → s.method ≡ r.method → Refit (μ r.method) r.plants s.plants entry.place.facility entry.place.year e entry.before n → Holds μ m s (takes_back ∷ es) × (n ≡ numbers es + 1)
-    taken_holds later s left len e by n number used method refit =
+    taken_holds : ((m : M) → Later (μ m)) → (s : Register M) → vec_items s.log.entries ≡ rest → (e : Enrolment) → EnrolledBy r entry.place.facility e → (n : ℕ) → n ≡ r.used + 1 → s.used ≡ n → s.method ≡ r.method → Refit (μ r.method) r.plants s.plants entry.place.facility entry.place.year e entry.before n → Holds μ m s (takes_back ∷ es) × (n ≡ numbers es + 1)
+    taken_holds later s left e by n number used method refit =
         let f = entry.place.facility in
         let d = plant_at μ m r es H f in
         let d-is = by_read μ m r es H f e by in
@@ -75,7 +75,7 @@ module _ {M : Type 0} (μ : M → Meaning) (m : M) (r : Register M) (es : List E
             log_len =
                 let long : length (undo_log es) ≡ suc (length more) = ap length h in
                 let short : length (undo_log (takes_back ∷ es)) ≡ length more = ap length after in
-                omega (arith, H.log_len, long, short, len);
+                omega (arith, H.log_len, long, short, s.log.entries.ok.0, ap length left, r.log.entries.ok.0, ap length items, length-append rest (entry ∷ []));
             plants_are = refit_lives (μ m) (later m) es (takes_back ∷ es) r.plants s.plants f y e entry.before n entry.place.year_range.0 entry.place.year_range.1 events fit H.plants_are d d-is (by.enrolment d d-is) by.low;
             known = subst (λ (l : List Act). AllByRecursion (Known (takes_back ∷ es)) (l ++ closed_acts es)) (sym after) (known_on es (takes_back ∷ es) (λ g k. k) (more ++ closed_acts es) known_all.1);
             no_others = H.no_others;
@@ -84,9 +84,9 @@ module _ {M : Type 0} (μ : M → Meaning) (m : M) (r : Register M) (es : List E
         )
 
 module _ {M : Type 0} (μ : M → Meaning) (r : Register M) (held : 0 < vec_len r.log.entries) (entry : Entry) (rest : List Entry) (items : vec_items r.log.entries ≡ rest ++ (entry ∷ [])) where
-  pub taken_lives : ((m : M) → Later (μ m)) → (s : Register M) → vec_items s.log.entries ≡ rest → vec_len s.log.entries + 1 ≡ vec_len r.log.entries → (e : Enrolment) → EnrolledBy r entry.place.facility e → (n : ℕ) → (r.used < 1000000) × (n ≡ r.used + 1) → s.used ≡ n → s.method ≡ r.method → Refit (μ r.method) r.plants s.plants entry.place.facility entry.place.year e entry.before n → Lives μ r s take_back (λ m cs. numbered n ≡ answer_to (μ m) take_back cs)
-  taken_lives later s left len e by n next used method refit m cs L =
+  pub taken_lives : ((m : M) → Later (μ m)) → (s : Register M) → vec_items s.log.entries ≡ rest → (e : Enrolment) → EnrolledBy r entry.place.facility e → (n : ℕ) → (r.used < 1000000) × (n ≡ r.used + 1) → s.used ≡ n → s.method ≡ r.method → Refit (μ r.method) r.plants s.plants entry.place.facility entry.place.year e entry.before n → LivesAnswering μ r s take_back (numbered n)
+  taken_lives later s left e by n next used method refit m cs L =
       let es = accepted cs in
       let none = taken_unrefused μ m r es L held next.0 in
-      let taken = taken_holds μ m r es L held entry rest items later s left len e by n next.1 used method refit in
+      let taken = taken_holds μ m r es L held entry rest items later s left e by n next.1 used method refit in
       (accepted_lives μ m s take_back cs takes_back none refl taken.0, ap numbered taken.1 ∙ sym (ap (λ o. answer_by o (granted (μ m) take_back es)) none))

@@ -3,7 +3,7 @@ use Rattle.std.proofs.Common.{◌≡◌, ℕ, List, ◌∷◌, Result, sym, refl
 use Rattle.limit.specs.Laws.{Meaning}
 use Rattle.register.specs.Answers.{Answered, answer_to}
 use Rattle.register.specs.Calls.{CallFields, look_up}
-use Rattle.register.specs.Lived.{Lived, Lives}
+use Rattle.register.specs.Lived.{Lived, LivesAnswering}
 use Rattle.register.specs.Performing.{answered, Performs}
 use Rattle.register.specs.declared.answers.Answer.{Answer}
 use Rattle.register.specs.declared.refusals.Refusal.{Refusal}
@@ -13,7 +13,7 @@ use Rattle.register.proofs.Wholes.{laws_of}
 
 module _ {M : Type 0} (μ : M → Meaning) (r s : Register M) (c d : CallFields) (d-is : d ≡ c) (a : Result Answer Refusal) where
   -- the call d that was matched is c
-  pub performed : (b : Answered) → answered a ≡ b → Lives μ r s c (λ m cs. b ≡ answer_to (μ m) c cs) → Performs μ r s d (answered a)
+  pub performed : (b : Answered) → answered a ≡ b → LivesAnswering μ r s c b → Performs μ r s d (answered a)
   performed b a-is lives m cs L =
       let p = lives m cs L in (
         laws_of μ m (d ∷ cs) s (subst (λ (x : CallFields). Lived μ m s (x ∷ cs)) (sym d-is) p.0),
@@ -21,5 +21,5 @@ module _ {M : Type 0} (μ : M → Meaning) (r s : Register M) (c d : CallFields)
       )
 
 -- a look-up is one call more of every history
-pub look_lives : {M : Type 0} (μ : M → Meaning) (r : Register M) (f y : ℕ) (b : Answered) → ((m : M) (cs : List CallFields) → Lived μ m r cs → b ≡ answer_to (μ m) (look_up f y) cs) → Lives μ r r (look_up f y) (λ m cs. b ≡ answer_to (μ m) (look_up f y) cs)
+pub look_lives : {M : Type 0} (μ : M → Meaning) (r : Register M) (f y : ℕ) (b : Answered) → ((m : M) (cs : List CallFields) → Lived μ m r cs → b ≡ answer_to (μ m) (look_up f y) cs) → LivesAnswering μ r r (look_up f y) b
 look_lives μ r f y b h m cs L = (looked_lives μ m r (look_up f y) cs refl L, h m cs L)

@@ -46,14 +46,14 @@ blank_lived meaning f =
       assessed_are = λ k lt. ap (option_map assessment_fields) (get_or-replicate 20 k None None lt);
     }
 
-pub new_lived : {M : Type 0} (μ : M → Meaning) (m : M) (r : Register M) → r.method ≡ m → r.plants ≡ replicate 4 blank_plant → r.used ≡ 0 → vec_items r.log.entries ≡ [] → vec_len r.log.entries ≡ 0 → Lived μ m r []
-new_lived μ m r method plants used items len =
+pub new_lived : {M : Type 0} (μ : M → Meaning) (m : M) (r : Register M) → r.method ≡ m → r.plants ≡ replicate 4 blank_plant → r.used ≡ 0 → vec_items r.log.entries ≡ [] → Lived μ m r []
+new_lived μ m r method plants used items =
     record {
       method_is = method;
       four = ap length plants;
       used_is = used;
       log_is = ap (map logged) items;
-      log_len = len;
+      log_len = r.log.entries.ok.0 ∙ ap length items;
       plants_are = λ f lo hi p p-is.
           let is : p ≡ blank_plant = p-is ∙ ap (λ (l : List Plant). get_or l (f - 1) p) plants ∙ get_or-replicate 4 (f - 1) blank_plant p (omega arith) in
           subst (PlantLived (μ m) [] f) (sym is) (blank_lived (μ m) f);
@@ -61,15 +61,15 @@ new_lived μ m r method plants used items len =
       no_others = λ f h. refl;
     }
 
-pub close_lived : {M : Type 0} (μ : M → Meaning) (m : M) (r s : Register M) (cs : List CallFields) → Lived μ m r cs → s.method ≡ r.method → s.plants ≡ r.plants → s.used ≡ r.used → vec_items s.log.entries ≡ [] → vec_len s.log.entries ≡ 0 → Lived μ m s (close ∷ cs)
+pub close_lived : {M : Type 0} (μ : M → Meaning) (m : M) (r s : Register M) (cs : List CallFields) → Lived μ m r cs → s.method ≡ r.method → s.plants ≡ r.plants → s.used ≡ r.used → vec_items s.log.entries ≡ [] → Lived μ m s (close ∷ cs)
 unfolding standing_at number_of
-close_lived μ m r s cs L method plants used items len =
+close_lived μ m r s cs L method plants used items =
     record {
       method_is = method ∙ L.method_is;
       four = ap length plants ∙ L.four;
       used_is = used ∙ L.used_is;
       log_is = ap (map logged) items;
-      log_len = len;
+      log_len = s.log.entries.ok.0 ∙ ap length items;
       plants_are = λ f lo hi p p-is.
           plant_same (μ m) (accepted cs) (closes ∷ accepted cs) f p (λ z. refl) refl (λ z. refl)
           (L.plants_are f lo hi p (p-is ∙ ap (λ (l : List Plant). get_or l (f - 1) p) plants));

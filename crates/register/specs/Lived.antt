@@ -7,7 +7,7 @@ use Rattle.enrolment.specs.Views.{enrolled}
 use Rattle.limit.specs.Laws.{Meaning}
 use Rattle.standard.specs.Places.{filings}
 use Rattle.register.specs.Acceptance.{accepted}
-use Rattle.register.specs.Answers.{assessment_at}
+use Rattle.register.specs.Answers.{Answered, answer_to, assessment_at}
 use Rattle.register.specs.Calls.{CallFields, Act, Event}
 use Rattle.register.specs.History.{left_by, places_of, enrolment_of, numbers}
 use Rattle.register.specs.Striking.{undo_log, closed_acts, unstruck}
@@ -55,3 +55,7 @@ module _ {M : Type 0} (μ : M → Meaning) where
   -- from every history that r has lived, s has lived that and the call c, and A holds of the history
   abbrev pub Lives : Register M → Register M → CallFields → (M → List CallFields → Type 0) → Type 0
   Lives r s c A = (m : M) (cs : List CallFields) → Lived m r cs → Lived m s (c ∷ cs) × A m cs
+
+  -- so, and the answer a is what the history makes of the call
+  abbrev pub LivesAnswering : Register M → Register M → CallFields → Answered → Type 0
+  LivesAnswering r s c a = Lives r s c (λ m cs. a ≡ answer_to (μ m) c cs)

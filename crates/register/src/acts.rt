@@ -1,9 +1,9 @@
 //! The calls that change a register.
 ghost use Rattle.std.specs.Prelude.{◌≡◌, [], IfOk, OnErr};
 ghost use Rattle.filing.specs.Views.{filed};
-ghost use Rattle.register.specs.Answers.{answer_to, number_answer, enrol_answer};
+ghost use Rattle.register.specs.Answers.{number_answer, enrol_answer};
 ghost use Rattle.register.specs.Calls.{enrol as enrol_call, file as file_call, amend as amend_call, withdraw as withdraw_call, take_back, close as close_call};
-ghost use Rattle.register.specs.Lived.{Lived, Lives};
+ghost use Rattle.register.specs.Lived.{Lived, Lives, LivesAnswering};
 
 use crate::log::UndoLog;
 use crate::places::{EnrolledPlace, Place, index_from};
@@ -19,7 +19,7 @@ use std::alloc::{AllocError, Global};
 impl<M: LimitMethod> Register<M> {
     /// Enrols a facility; an enrolment stays.
     pub fn enrol(&mut self, fields: EnrolmentFields) -> Result<(), Refusal>
-        ensures lives { Lives M.LimitMethod.meaning self.old self.new (enrol_call fields) (λ m cs. enrol_answer result ≡ answer_to (M.LimitMethod.meaning m) (enrol_call fields) cs) }
+        ensures lives { LivesAnswering M.LimitMethod.meaning self.old self.new (enrol_call fields) (enrol_answer result) }
         ensures refused { OnErr result (self.new ≡ self.old) }
     {
         let enrolment = Enrolment::try_from(fields)?;
@@ -33,7 +33,7 @@ impl<M: LimitMethod> Register<M> {
 
     /// Files at a place where nothing stands.
     pub fn file(&mut self, signed: Signed) -> Result<u64, Refusal>
-        ensures lives { Lives M.LimitMethod.meaning self.old self.new (file_call (filed signed)) (λ m cs. number_answer result ≡ answer_to (M.LimitMethod.meaning m) (file_call (filed signed)) cs) }
+        ensures lives { LivesAnswering M.LimitMethod.meaning self.old self.new (file_call (filed signed)) (number_answer result) }
         ensures refused { OnErr result (self.new ≡ self.old) }
     {
         let at = self.enrolled(Place::from(&signed))?;
@@ -45,7 +45,7 @@ impl<M: LimitMethod> Register<M> {
 
     /// Files in the place of what stands.
     pub fn amend(&mut self, signed: Signed) -> Result<u64, Refusal>
-        ensures lives { Lives M.LimitMethod.meaning self.old self.new (amend_call (filed signed)) (λ m cs. number_answer result ≡ answer_to (M.LimitMethod.meaning m) (amend_call (filed signed)) cs) }
+        ensures lives { LivesAnswering M.LimitMethod.meaning self.old self.new (amend_call (filed signed)) (number_answer result) }
         ensures refused { OnErr result (self.new ≡ self.old) }
     {
         let at = self.enrolled(Place::from(&signed))?;
@@ -54,8 +54,9 @@ impl<M: LimitMethod> Register<M> {
     }
 
     /// Empties a place where a filing stands.
+    // Bare numbers: a caller may ask for a facility or a year that there is not.
     pub fn withdraw(&mut self, facility: u64, year: u64) -> Result<u64, Refusal>
-        ensures lives { Lives M.LimitMethod.meaning self.old self.new (withdraw_call facility year) (λ m cs. number_answer result ≡ answer_to (M.LimitMethod.meaning m) (withdraw_call facility year) cs) }
+        ensures lives { LivesAnswering M.LimitMethod.meaning self.old self.new (withdraw_call facility year) (number_answer result) }
         ensures refused { OnErr result (self.new ≡ self.old) }
     {
         let enrolment = self.enrolment_of(facility)?;
@@ -66,7 +67,7 @@ impl<M: LimitMethod> Register<M> {
 
     /// Undoes the latest act of the undo log.
     pub fn take_back(&mut self) -> Result<u64, Refusal>
-        ensures lives { Lives M.LimitMethod.meaning self.old self.new take_back (λ m cs. number_answer result ≡ answer_to (M.LimitMethod.meaning m) take_back cs) }
+        ensures lives { LivesAnswering M.LimitMethod.meaning self.old self.new take_back (number_answer result) }
         ensures refused { OnErr result (self.new ≡ self.old) }
     {
         let entry = self.log.latest().ok_or(Refusal::Bare)?;

@@ -25,7 +25,7 @@ pub(crate) struct UndoLog {
 impl UndoLog {
     /// An empty log.
     pub(crate) fn new(heap: Global) -> Result<UndoLog, AllocError>
-        ensures { IfOk result (λ b. (b.entries.items ≡ []) × (vec_len b.entries ≡ 0)) }
+        ensures { IfOk result (λ b. b.entries.items ≡ []) }
     {
         let entries = Vec::with_capacity(heap, MOST_ACTS)?;
         Ok(UndoLog { entries })
@@ -41,8 +41,7 @@ impl UndoLog {
     /// Adds the latest act.
     pub(crate) fn write(&mut self, entry: Entry)
         requires { vec_len self.old.entries < 32 }
-        ensures items { self.new.entries.items ≡ self.old.entries.items ++ entry ∷ [] }
-        ensures len { vec_len self.new.entries ≡ vec_len self.old.entries + 1 }
+        ensures { self.new.entries.items ≡ self.old.entries.items ++ entry ∷ [] }
     {
         self.entries.push_reserved(entry);
     }
@@ -56,16 +55,14 @@ impl UndoLog {
 
     /// Removes the latest act, where there is one.
     pub(crate) fn strike(&mut self)
-        ensures items { self.new.entries.items ≡ take (vec_len self.old.entries - 1) self.old.entries.items }
-        ensures len { vec_len self.new.entries ≡ vec_len self.old.entries - 1 }
+        ensures { self.new.entries.items ≡ take (vec_len self.old.entries - 1) self.old.entries.items }
     {
         let _ = self.entries.pop();
     }
 
     /// Removes all acts.
     pub(crate) fn clear(&mut self)
-        ensures items { self.new.entries.items ≡ [] }
-        ensures len { vec_len self.new.entries ≡ 0 }
+        ensures { self.new.entries.items ≡ [] }
     {
         self.entries.clear();
     }

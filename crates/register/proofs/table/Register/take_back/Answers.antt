@@ -1,4 +1,4 @@
-use Rattle.std.proofs.Common.{◌≡◌, ◌+◌, vec_items, vec_len, ap, ◌∙◌, arith}
+use Rattle.std.proofs.Common.{vec_items, ap, ◌∙◌}
 use Rattle.register.specs.Acceptance.{accepted}
 use Rattle.register.proofs.Backs.{taken_known, taken_lives}
 use Rattle.register.proofs.table.Register.take_back.Goals as goal
@@ -11,10 +11,8 @@ returns-in_err-at-clause-lives g c =
 pub returns-clause-lives : goal.returns-clause-lives
 returns-clause-lives g c =
     let last = rw c.in_ok-entry.ensures.ok_part at c.latest.ensures in
-    let items = ap (λ w. vec_items w.entries) c.put.ensures.log ∙ c.strike.ensures.items in
-    let short = ap (λ w. vec_len w.entries) c.put.ensures.log ∙ c.strike.ensures.len in
-    let len : vec_len c.put.new.self.log.entries + 1 ≡ vec_len c.args.self.now.log.entries = omega (arith, last.0, short) in
+    let items = ap (λ w. vec_items w.entries) c.put.ensures.log ∙ c.strike.ensures in
     let by = rw c.in_ok-at.ensures.0 at c.in_ok-at.ensures.1 in
     let put = rw c.in_ok-at.ensures.0 at c.put.ensures in
-    taken_lives g.M.LimitMethod.meaning c.args.self.now last.0 c.in_ok-entry.entry _ last.1 g.met.M.LimitMethod.later c.put.new.self items len c.in_ok-at.at.enrolment by c.in_ok-number.number c.in_ok-number.ensures
+    taken_lives g.M.LimitMethod.meaning c.args.self.now last.0 c.in_ok-entry.entry _ last.1 g.met.M.LimitMethod.later c.put.new.self items c.in_ok-at.at.enrolment by c.in_ok-number.number c.in_ok-number.ensures
     put.used put.method put.refit
