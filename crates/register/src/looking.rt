@@ -49,6 +49,7 @@ impl<M: LimitMethod> Register<M> {
     }
 
     /// The assessment of a facility and year.
+    // Bare numbers: a caller may ask for a facility or a year that there is not.
     pub fn look_up(&self, facility: u64, year: u64) -> Result<Assessment, Refusal>
         ensures shows { Looked result (shown_at self.now facility year) }
         ensures answers { (m : M) (cs : List CallFields) → Lived M.LimitMethod.meaning m self.now cs → look_answer result ≡ answer_to (M.LimitMethod.meaning m) (look_up facility year) cs }

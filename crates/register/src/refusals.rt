@@ -14,6 +14,7 @@ pub enum Refusal {
     /// The facility is enrolled already.
     Enrolled = 12,
     /// A field of the enrolment is outside its range.
+    // The number of the enrolment's own fault: an enum declared with its numbers holds no values, so it is said again.
     Enrolment = 13,
     /// A filing stands at the place.
     Stands = 14,
@@ -42,7 +43,7 @@ impl Refusal {
     pub fn number(&self) -> u64
         ensures { result ≡ (refusal_told self.now).number }
     {
-        // A method and no `From`, as for the faults that have values: all are asked in one way.
+        // A method of its own, as each fault has: a trait for it would need as many impls with this one line.
         *self as u64
     }
 }

@@ -30,7 +30,7 @@ pub(crate) struct Plant {
 #[derive(Drop)]
 pub struct Register<M> {
     pub(crate) method: M,
-    // An array: there are four facilities, and a register takes no memory that can run out.
+    // An array, as the facilities have fixed memory by the rule of the project.
     pub(crate) plants: [Plant; FACILITIES as usize],
     pub(crate) log: UndoLog,
     pub(crate) used: u64,
