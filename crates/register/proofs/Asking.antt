@@ -1,5 +1,5 @@
 -- How a call on a facility and year is answered, from what was found there.
-use Rattle.std.proofs.Common.{◌≡◌, ℕ, ◌+◌, ◌-◌, ◌≤◌, Bool, true, false, not, ◌&&◌, leb, List, [], ◌∷◌, get_or, is_some, Some, None, Option, Result, sym, refl, ap, ◌∙◌, ⊎_elim}
+use Rattle.std.proofs.Common.{◌≡◌, ℕ, ◌+◌, ◌-◌, ◌≤◌, Bool, true, false, not, ◌&&◌, leb, List, [], ◌∷◌, get_or, is_some, Some, None, Option, Result, sym, refl, ap, ◌∙◌, subst, ⊎_elim}
 use Rattle.std.proofs.lemmas.Bool.{cases_Bool, and_parts, and_from, le-leb, leb-true, cond-true, cond-false}
 use Rattle.filing.specs.Filing.{FilingFields}
 use Rattle.filing.specs.declared.signed.Signed.{Signed}
@@ -140,6 +140,17 @@ module _ (x : FilingFields) (p : Place) (p-is : IsFor x p) where
 
   pub amend_acts : ActsOn (amend x) act_of not Vacant
   amend_acts = record { does = ap (λ a. Some (acts a)) filing_does; asks = λ es. rw (p-is.0, p-is.1) refl; grants = λ meaning es. refl }
+
+-- the same at a place that is this one
+module _ (x : FilingFields) {p q : Place} (same : q ≡ p) (p-is : IsFor x p) where
+  abbrev q-is : IsFor x q
+  q-is = subst (IsFor x) (sym same) p-is
+
+  pub file_at : ActsOn (file x) (act_of x q q-is) (λ b. b) Stands
+  file_at = file_acts x q q-is
+
+  pub amend_at : ActsOn (amend x) (act_of x q q-is) not Vacant
+  amend_at = amend_acts x q q-is
 
 pub withdraw_acts : (f y : ℕ) → ActsOn (withdraw f y) (withdrawal f y) not Vacant
 withdraw_acts f y = record { does = refl; asks = λ es. refl; grants = λ meaning es. refl }

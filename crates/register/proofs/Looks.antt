@@ -22,6 +22,7 @@ use Rattle.register.specs.declared.table.Plant.{Plant}
 use Rattle.register.specs.declared.table.Register.{Register}
 use Rattle.register.proofs.Keeping.{check_holds, check_passes}
 use Rattle.register.proofs.Options.{none_of}
+use Rattle.register.proofs.Plain.{by_enrolled}
 use Rattle.register.proofs.Shown.{shown_is, vacant_none}
 
 shown_some : (o : Option Enrolment) (a : Option Assessment) → is_some o ≡ true → shown_of o a ≡ option_map assessment_fields a
@@ -82,6 +83,10 @@ module _ {M : Type 0} (r : Register M) (f : ℕ) (four : length r.plants ≡ 4) 
   pub held_enrolled : (e : Enrolment) → p.enrolment ≡ Some e → 1 ≤ f → f ≤ 4 → EnrolledBy r f e
   held_enrolled e there low high = record { low = low; high = high; enrolment = λ d d-is. held_same low high d d-is ∙ there }
 
+-- nothing is shown of one that is held and not enrolled
+pub shown_gone : {M : Type 0} (r : Register M) (f y : ℕ) (four : length r.plants ≡ 4) (p : Plant) → p ≡ get_or r.plants (f - 1) p → is_some p.enrolment ≡ false → shown_at r f y ≡ None
+shown_gone r f y four p is gone = shown_unknown r f y four (held_absent r f four p is gone)
+
 pub looked_or : (o : Option Assessment) (t : Option AssessmentFields) (w : Refusal) → t ≡ option_map assessment_fields o → Looked (ok_or o w) t
 looked_or None t w h = h
 looked_or (Some a) t w h = h
@@ -114,3 +119,15 @@ module _ {M : Type 0} (μ : M → Meaning) (m : M) (r : Register M) (cs : List C
       ∙ ap found (vacant_none (μ m) (accepted cs) f y (none_of (standing_at (accepted cs) f y) gone))
       ∙ sym (ap (λ o. answer_by o (found (assessment_at (μ m) (accepted cs) f y))) (passed ∙ check_holds (vacant (accepted cs) f y) [] (ap not gone))))
       (cases_Bool (is_some (standing_at (accepted cs) f y)))
+
+-- what a look-up answers of a facility that is held to be enrolled
+module _ {M : Type 0} (μ : M → Meaning) (r : Register M) (f y : ℕ) (four : length r.plants ≡ 4) (low : 1 ≤ f) (high : f ≤ 4) (p : Plant) (is : p ≡ get_or r.plants (f - 1) p) (e : Enrolment) (there : p.enrolment ≡ Some e) (a : Option Assessment) (a-is : a ≡ at_year p.assessed y) where
+  by : EnrolledBy r f e
+  by = held_enrolled r f four p is e there low high
+
+  shows : shown_at r f y ≡ option_map assessment_fields a
+  shows = shown_known r f y four e by p a is a-is
+
+  pub looked : Looked (ok_or a Vacant) (shown_at r f y) × ((m : M) (cs : List CallFields) → Lived μ m r cs → look_answer (ok_or a Vacant) ≡ answer_to (μ m) (look_up f y) cs)
+  looked =
+      (looked_or a (shown_at r f y) Vacant shows, λ m cs L. answer_or_vacant a ∙ look_enrolled μ m r cs L f y (by_enrolled μ m r (accepted cs) L f e by) (option_map assessment_fields a) shows)

@@ -32,6 +32,8 @@ fn assessment_of(filing: &Filing, outcome: Outcome, number: u64) -> Assessment
 }
 
 /// The assessment of a year, where a filing stands there.
+// The method and the number stay two parameters, from `put` down: a struct of both would need a lifetime, a type
+// parameter and an impl, for a pair that is made in one place.
 fn fresh<M: LimitMethod>(method: &M, at: FacilityYear<'_>, number: u64) -> Option<Assessment>
     ensures { option_map assessment_fields result ≡ anew_of (M.LimitMethod.meaning method.now) (enrolled at.entry.enrolment.now) (filings at.entry.places.now) at.entry.year number (standing (filings at.entry.places.now) at.entry.year) }
 {
@@ -51,6 +53,7 @@ pub(crate) fn reassess<M: LimitMethod>(
     ensures before { (k : ℕ) → 2017 + k < at.entry.year → slice_index_or assessed.new k none ≡ slice_index_or assessed.old k none }
     ensures after { (k : ℕ) → at.entry.year ≤ 2017 + k → k < 20 → option_map assessment_fields (slice_index_or assessed.new k none) ≡ anew (M.LimitMethod.meaning method.now) (enrolled at.entry.enrolment.now) (filings at.entry.places.now) k number }
 {
+    // By index: `(at.year..).zip(&mut assessed[from..])` was tried, and its invariant can't name what was written.
     for year in at.year..=LAST_YEAR {
         assessed[index_from(FIRST_YEAR, year)] = fresh(method, FacilityYear { year, ..at }, number);
     }

@@ -1,4 +1,4 @@
-use Rattle.std.proofs.Common.{◌≡◌, ◌-◌, ◌<◌, length, get_or, is_some, sym, refl, ap, ◌∙◌, arith, rules}
+use Rattle.std.proofs.Common.{◌-◌, ◌<◌, length, get_or, is_some, sym, refl, ap, ◌∙◌, rules}
 use Rattle.std.proofs.lemmas.List.{get_or_default}
 use Rattle.enrolment.specs.Views.{enrolled}
 use Rattle.register.specs.Acceptance.{accepted}
@@ -16,8 +16,7 @@ returns-clause-lives g c =
     let r = c.args.self.now in
     let i = e.facility - 1 in
     let p = c.index-self-i-2.result in
-    let four : length r.plants ≡ 4 = search rules in
-    let within : e.facility - 1 < length r.plants = omega arith in
+    let within : e.facility - 1 < length r.plants = search rules in
     let read = sym c.is_some.ensures ∙ c.if-is_some.false in
     let here = rw (c.index_from-i.ensures, c.from.ensures) at read in
     let gone = sym (ap (λ (d : Plant). is_some d.enrolment) (get_or_default r.plants i c.index-self-i.result p within)) ∙ here in
