@@ -6,12 +6,13 @@ use filing::fields::{HeadFields, LineFields};
 use filing::signed::Signed;
 use limit::joined::Joined;
 use limit::methods::{Industrial, Station};
-use limit::outcome::Outcome;
+use limit::outcome::{NoLimit, Outcome};
 use register::answers::Answer;
 use register::calls::Call;
 use register::perform::run;
 use register::refusals::Refusal;
 use register::table::Register;
+use standard::causes::Cause;
 use std::alloc::Global;
 use std::process::Abort;
 use std::test::Fail;
@@ -104,18 +105,18 @@ fn withdraw(facility: u64, year: u64) -> Call {
     Call::Withdraw { facility, year }
 }
 
-/// What an accepted call is answered: causes by their numbers, the number of an assessment last.
+/// What an accepted call is answered, the number of an assessment last.
 #[derive(Clone, Copy, Debug, PartialEq)]
 enum Told {
     Enrolled,
     Number(u64),
     Closed,
     Limit(u64, u64),
-    NoLimit(u64, u64),
-    Fault(u64, usize, u64),
+    Unlimited(NoLimit, u64),
+    Fault(Cause, usize, u64),
 }
 
-use Told::{Closed, Enrolled, Fault, Limit, NoLimit, Number};
+use Told::{Closed, Enrolled, Fault, Limit, Number, Unlimited};
 
 impl From<Answer> for Told {
     fn from(answer: Answer) -> Told {
@@ -125,74 +126,76 @@ impl From<Answer> for Told {
             Answer::Closed => Closed,
             Answer::Assessed(assessment) => match assessment.outcome {
                 Outcome::Limit(limit) => Limit(limit.tonnes, assessment.number),
-                Outcome::NoLimit(cause) => NoLimit(cause.number(), assessment.number),
-                Outcome::Fault { cause, line } => Fault(cause.number(), line, assessment.number),
+                Outcome::NoLimit(cause) => Unlimited(cause, assessment.number),
+                Outcome::Fault { cause, line } => Fault(cause, line, assessment.number),
             },
         }
     }
 }
 
-/// What a call is answered, a refusal by its number.
-type Seen = Result<Told, u64>;
+type Seen = Result<Told, Refusal>;
 
 fn tell(answer: Result<Answer, Refusal>) -> Seen {
-    answer.map(Told::from).map_err(|refusal| refusal.number())
+    answer.map(Told::from)
 }
 
-/// A new register with this history, in which each call is answered as the table says.
-fn history(
-    rt: &impl Abort,
+type Table = Register<Joined<Industrial, Station>>;
+
+/// A register that a test performs calls on.
+#[derive(Drop)]
+struct History<'a, R> {
+    rt: &'a R,
     heap: Global,
-    table: &[(Call, Seen)],
-) -> Result<Register<Joined<Industrial, Station>>, Fail> {
-    let calls: Vec<Call> = table.iter().map(|(call, _)| *call).collect(heap)?;
-    let (register, answers) = run(heap, METHOD, &calls)?;
-    assert_eq!(rt; answers.len(), table.len());
-    for (i, (&answer, &(_, expected))) in answers.iter().zip(table).enumerate() {
-        assert_eq!(rt; tell(answer), expected, "row {i}");
-    }
-    Ok(register)
+    register: Table,
 }
 
-/// The history goes on.
-fn then(
-    rt: &impl Abort,
-    register: &mut Register<Joined<Industrial, Station>>,
-    table: &[(Call, Seen)],
-) {
-    for (i, &(call, expected)) in table.iter().enumerate() {
-        assert_eq!(rt; tell(register.perform(call)), expected, "row {i}");
+impl<'a, R: Abort> History<'a, R> {
+    /// A new register with these calls, each answered as the table says.
+    fn new(rt: &'a R, heap: Global, table: &[(Call, Seen)]) -> Result<Self, Fail> {
+        let calls: Vec<Call> = table.iter().map(|(call, _)| *call).collect(heap)?;
+        let (register, answers) = run(heap, METHOD, &calls)?;
+        assert_eq!(rt; answers.len(), table.len());
+        for (i, (&answer, &(_, expected))) in answers.iter().zip(table).enumerate() {
+            assert_eq!(rt; tell(answer), expected, "row {i}");
+        }
+        Ok(History { rt, heap, register })
     }
-}
 
-/// All look-ups of all facilities.
-fn view(
-    heap: Global,
-    register: &mut Register<Joined<Industrial, Station>>,
-) -> Result<Vec<Seen>, Fail> {
-    let mut seen = Vec::new(heap);
-    for facility in 1..=4 {
-        for year in 2017..=2036 {
-            seen.push(tell(register.perform(at(facility, year))))?;
+    /// The history goes on.
+    fn then(&mut self, table: &[(Call, Seen)]) {
+        for (i, &(call, expected)) in table.iter().enumerate() {
+            assert_eq!(self.rt; tell(self.register.perform(call)), expected, "row {i}");
         }
     }
-    Ok(seen)
-}
 
-/// Each call is refused with the number that the table says, and no look-up changes.
-fn refuses(
-    rt: &impl Abort,
-    heap: Global,
-    register: &mut Register<Joined<Industrial, Station>>,
-    table: &[(Call, u64)],
-) -> Result<(), Fail> {
-    let before = view(heap, register)?;
-    for (i, &(call, number)) in table.iter().enumerate() {
-        assert_eq!(rt; tell(register.perform(call)), Err(number), "row {i}");
-        let after = view(heap, register)?;
-        assert!(rt; after.as_slice() == before.as_slice(), "row {i}");
+    /// All look-ups of all facilities.
+    fn view(&mut self) -> Result<Vec<Seen>, Fail> {
+        let mut seen = Vec::new(self.heap);
+        for facility in 1..=4 {
+            for year in 2017..=2036 {
+                seen.push(tell(self.register.perform(at(facility, year))))?;
+            }
+        }
+        Ok(seen)
     }
-    Ok(())
+
+    /// Each call is refused as the table says, and no look-up changes.
+    fn refuses(&mut self, table: &[(Call, Refusal)]) -> Result<(), Fail> {
+        let before = self.view()?;
+        for (i, &(call, refusal)) in table.iter().enumerate() {
+            assert_eq!(self.rt; tell(self.register.perform(call)), Err(refusal), "row {i}");
+            let after = self.view()?;
+            assert!(self.rt; after.as_slice() == before.as_slice(), "row {i}");
+        }
+        Ok(())
+    }
+
+    /// The same call many times.
+    fn repeat(&mut self, call: Call, times: u64) {
+        for _ in 0..times {
+            let _ = self.register.perform(call);
+        }
+    }
 }
 
 /// The station is enrolled and files.
@@ -203,11 +206,19 @@ fn opening(filing: Signed) -> [(Call, Seen); 2] {
     ]
 }
 
-/// The same call many times.
-fn repeat(register: &mut Register<Joined<Industrial, Station>>, call: Call, times: u64) {
-    for _ in 0..times {
-        let _ = register.perform(call);
-    }
+/// The numbers of the refusals and causes that the tables name.
+#[test]
+fn numbers(rt: HostRuntime) {
+    assert_eq!(rt; Refusal::Unknown.number(), 11);
+    assert_eq!(rt; Refusal::Enrolled.number(), 12);
+    assert_eq!(rt; Refusal::Enrolment.number(), 13);
+    assert_eq!(rt; Refusal::Stands.number(), 14);
+    assert_eq!(rt; Refusal::Vacant.number(), 15);
+    assert_eq!(rt; Refusal::Book.number(), 16);
+    assert_eq!(rt; Refusal::Bare.number(), 17);
+    assert_eq!(rt; Refusal::Spent.number(), 18);
+    assert_eq!(rt; Cause::Capacity.number(), 34);
+    assert_eq!(rt; NoLimit::Early.number(), 41);
 }
 
 #[test]
@@ -223,22 +234,22 @@ fn history_of_the_station(rt: HostRuntime) -> Result<(), Fail> {
             Call::File(station_year(2023, 300_000, 0, 0)?),
             Ok(Number(3)),
         ),
-        (at(1, 2018), Ok(NoLimit(41, 1))),
+        (at(1, 2018), Ok(Unlimited(NoLimit::Early, 1))),
         (at(1, 2022), Ok(Limit(106_900, 2))),
         (at(1, 2023), Ok(Limit(102_800, 3))),
         (withdraw(1, 2018), Ok(Number(4))),
-        (at(1, 2018), Err(15)),
+        (at(1, 2018), Err(Refusal::Vacant)),
         (at(1, 2022), Ok(Limit(98_700, 4))),
         (at(1, 2023), Ok(Limit(86_400, 4))),
         (Call::TakeBack, Ok(Number(5))),
-        (at(1, 2018), Ok(NoLimit(41, 5))),
+        (at(1, 2018), Ok(Unlimited(NoLimit::Early, 5))),
         (at(1, 2022), Ok(Limit(106_900, 5))),
         (at(1, 2023), Ok(Limit(102_800, 5))),
         (withdraw(1, 2018), Ok(Number(6))),
         (withdraw(1, 2022), Ok(Number(7))),
-        (at(1, 2023), Ok(Fault(34, 1, 7))),
+        (at(1, 2023), Ok(Fault(Cause::Capacity, 1, 7))),
     ];
-    let _ = history(&rt, rt.alloc(), &table)?;
+    let _ = History::new(&rt, rt.alloc(), &table)?;
     Ok(())
 }
 
@@ -258,15 +269,15 @@ fn early_year_filed_late(rt: HostRuntime) -> Result<(), Fail> {
         (at(1, 2022), Ok(Limit(98_700, 1))),
         (at(1, 2023), Ok(Limit(86_400, 2))),
         (Call::File(station_year(2018, 0, 100, 0)?), Ok(Number(3))),
-        (at(1, 2018), Ok(NoLimit(41, 3))),
+        (at(1, 2018), Ok(Unlimited(NoLimit::Early, 3))),
         (at(1, 2022), Ok(Limit(106_900, 3))),
         (at(1, 2023), Ok(Limit(102_800, 3))),
         (Call::TakeBack, Ok(Number(4))),
-        (at(1, 2018), Err(15)),
+        (at(1, 2018), Err(Refusal::Vacant)),
         (at(1, 2022), Ok(Limit(98_700, 4))),
         (at(1, 2023), Ok(Limit(86_400, 4))),
     ];
-    let _ = history(&rt, rt.alloc(), &table)?;
+    let _ = History::new(&rt, rt.alloc(), &table)?;
     Ok(())
 }
 
@@ -281,12 +292,12 @@ fn base_year_withdrawn(rt: HostRuntime) -> Result<(), Fail> {
         (at(2, 2020), Ok(Limit(2_000, 2))),
         (at(2, 2021), Ok(Limit(2_000, 3))),
         (withdraw(2, 2019), Ok(Number(4))),
-        (at(2, 2019), Err(15)),
+        (at(2, 2019), Err(Refusal::Vacant)),
         (at(2, 2020), Ok(Limit(3_000, 4))),
         (at(2, 2021), Ok(Limit(3_000, 4))),
     ];
-    let register = history(&rt, rt.alloc(), &table)?;
-    let assessment = register.look_up(2, 2021)?;
+    let history = History::new(&rt, rt.alloc(), &table)?;
+    let assessment = history.register.look_up(2, 2021)?;
     assert_eq!(rt; assessment.emissions.tonnes, 4_000);
     assert_eq!(rt; assessment.balance, -1_000);
     Ok(())
@@ -309,7 +320,7 @@ fn shares_kept_exact(rt: HostRuntime) -> Result<(), Fail> {
         (Call::File(signed(1, 2022, 0, &grown)?), Ok(Number(2))),
         (at(1, 2022), Ok(Limit(575_209, 2))),
     ];
-    let _ = history(&rt, rt.alloc(), &table)?;
+    let _ = History::new(&rt, rt.alloc(), &table)?;
     Ok(())
 }
 
@@ -318,46 +329,42 @@ fn undo_log_filled(rt: HostRuntime) -> Result<(), Fail> {
     let heap = rt.alloc();
     let filing = station_year(2017, 0, 100, 0)?;
     let amend = Call::Amend(filing);
-    let mut register = history(&rt, heap, &opening(filing))?;
-    repeat(&mut register, amend, 30);
+    let mut history = History::new(&rt, heap, &opening(filing))?;
+    history.repeat(amend, 30);
     let table = [
         (amend, Ok(Number(32))),
-        (amend, Err(16)),
+        (amend, Err(Refusal::Book)),
         (Call::TakeBack, Ok(Number(33))),
         (amend, Ok(Number(34))),
-        (amend, Err(16)),
+        (amend, Err(Refusal::Book)),
         (Call::Close, Ok(Closed)),
-        (Call::TakeBack, Err(17)),
+        (Call::TakeBack, Err(Refusal::Bare)),
         (amend, Ok(Number(35))),
         (Call::TakeBack, Ok(Number(36))),
-        (Call::TakeBack, Err(17)),
+        (Call::TakeBack, Err(Refusal::Bare)),
     ];
-    then(&rt, &mut register, &table);
-    repeat(&mut register, amend, 31);
-    then(
-        &rt,
-        &mut register,
-        &[(amend, Ok(Number(68))), (amend, Err(16))],
-    );
+    history.then(&table);
+    history.repeat(amend, 31);
+    history.then(&[(amend, Ok(Number(68))), (amend, Err(Refusal::Book))]);
     Ok(())
 }
 
 /// The station's filing stands, the number 999,998 is used, and the log holds thirty acts.
-fn nearly_spent(
-    rt: &impl Abort,
+fn nearly_spent<'a, R: Abort>(
+    rt: &'a R,
     heap: Global,
     filing: Signed,
-) -> Result<Register<Joined<Industrial, Station>>, Fail> {
+) -> Result<History<'a, R>, Fail> {
     let amend = Call::Amend(filing);
-    let mut register = history(rt, heap, &opening(filing))?;
+    let mut history = History::new(rt, heap, &opening(filing))?;
     for _ in 0..33_332 {
-        repeat(&mut register, amend, 30);
-        repeat(&mut register, Call::Close, 1);
+        history.repeat(amend, 30);
+        history.repeat(Call::Close, 1);
     }
-    repeat(&mut register, amend, 7);
-    repeat(&mut register, Call::Close, 1);
-    repeat(&mut register, amend, 30);
-    Ok(register)
+    history.repeat(amend, 7);
+    history.repeat(Call::Close, 1);
+    history.repeat(amend, 30);
+    Ok(history)
 }
 
 /// The log is full when the last number is used.
@@ -367,86 +374,86 @@ fn last_number(rt: HostRuntime) -> Result<(), Fail> {
     let filing = station_year(2036, 0, 100, 0)?;
     let other = station_year(2035, 0, 100, 0)?;
     let amend = Call::Amend(filing);
-    let mut register = nearly_spent(&rt, heap, filing)?;
+    let mut history = nearly_spent(&rt, heap, filing)?;
     let last = [
         (at(1, 2036), Ok(Limit(0, 999_998))),
         (amend, Ok(Number(999_999))),
         (amend, Ok(Number(1_000_000))),
     ];
-    then(&rt, &mut register, &last);
+    history.then(&last);
     let full = [
-        (Call::File(filing), 14),
-        (Call::File(other), 16),
-        (amend, 16),
-        (withdraw(1, 2036), 16),
-        (Call::TakeBack, 18),
+        (Call::File(filing), Refusal::Stands),
+        (Call::File(other), Refusal::Book),
+        (amend, Refusal::Book),
+        (withdraw(1, 2036), Refusal::Book),
+        (Call::TakeBack, Refusal::Spent),
     ];
-    refuses(&rt, heap, &mut register, &full)?;
-    then(&rt, &mut register, &[(Call::Close, Ok(Closed))]);
+    history.refuses(&full)?;
+    history.then(&[(Call::Close, Ok(Closed))]);
     let spent = [
-        (Call::File(filing), 14),
-        (Call::File(other), 18),
-        (Call::Amend(other), 15),
-        (amend, 18),
-        (withdraw(1, 2036), 18),
-        (Call::TakeBack, 17),
+        (Call::File(filing), Refusal::Stands),
+        (Call::File(other), Refusal::Spent),
+        (Call::Amend(other), Refusal::Vacant),
+        (amend, Refusal::Spent),
+        (withdraw(1, 2036), Refusal::Spent),
+        (Call::TakeBack, Refusal::Bare),
     ];
-    refuses(&rt, heap, &mut register, &spent)?;
+    history.refuses(&spent)?;
     let after = [
         (at(1, 2036), Ok(Limit(0, 1_000_000))),
         (Call::Enrol(MILL), Ok(Enrolled)),
         (Call::Close, Ok(Closed)),
     ];
-    then(&rt, &mut register, &after);
+    history.then(&after);
     Ok(())
 }
 
 /// Refused before a facility is enrolled.
-fn refused_at_first(filing: Signed) -> [(Call, u64); 11] {
+fn refused_at_first(filing: Signed) -> [(Call, Refusal); 11] {
     [
-        (Call::File(filing), 11),
-        (Call::Amend(filing), 11),
-        (withdraw(1, 2022), 11),
-        (withdraw(0, 2022), 11),
-        (withdraw(5, 2037), 11),
-        (at(1, 2022), 11),
-        (at(1, 2016), 11),
-        (at(u64::MAX, 2022), 11),
-        (Call::TakeBack, 17),
-        (Call::Enrol(ODD), 13),
-        (Call::Enrol(FAR), 13),
+        (Call::File(filing), Refusal::Unknown),
+        (Call::Amend(filing), Refusal::Unknown),
+        (withdraw(1, 2022), Refusal::Unknown),
+        (withdraw(0, 2022), Refusal::Unknown),
+        (withdraw(5, 2037), Refusal::Unknown),
+        (at(1, 2022), Refusal::Unknown),
+        (at(1, 2016), Refusal::Unknown),
+        (at(u64::MAX, 2022), Refusal::Unknown),
+        (Call::TakeBack, Refusal::Bare),
+        (Call::Enrol(ODD), Refusal::Enrolment),
+        (Call::Enrol(FAR), Refusal::Enrolment),
     ]
 }
 
 /// Refused while the filing stands alone.
-fn refused_after_one(filing: Signed, next: Signed, mill: Signed) -> [(Call, u64); 13] {
+fn refused_after_one(filing: Signed, next: Signed, mill: Signed) -> [(Call, Refusal); 13] {
     [
-        (Call::Enrol(STATION), 12),
-        (Call::Enrol(ODD), 13),
-        (Call::File(filing), 14),
-        (Call::File(mill), 11),
-        (Call::Amend(mill), 11),
-        (Call::Amend(next), 15),
-        (withdraw(1, 2023), 15),
-        (withdraw(1, 2016), 15),
-        (withdraw(1, 2037), 15),
-        (at(1, 2023), 15),
-        (at(1, 2016), 15),
-        (at(1, 2037), 15),
-        (at(1, u64::MAX), 15),
+        (Call::Enrol(STATION), Refusal::Enrolled),
+        (Call::Enrol(ODD), Refusal::Enrolment),
+        (Call::File(filing), Refusal::Stands),
+        (Call::File(mill), Refusal::Unknown),
+        (Call::Amend(mill), Refusal::Unknown),
+        (Call::Amend(next), Refusal::Vacant),
+        (withdraw(1, 2023), Refusal::Vacant),
+        (withdraw(1, 2016), Refusal::Vacant),
+        (withdraw(1, 2037), Refusal::Vacant),
+        (at(1, 2023), Refusal::Vacant),
+        (at(1, 2016), Refusal::Vacant),
+        (at(1, 2037), Refusal::Vacant),
+        (at(1, u64::MAX), Refusal::Vacant),
     ]
 }
 
 /// Refused when the log is full.
-fn refused_when_full(filing: Signed, next: Signed, mill: Signed) -> [(Call, u64); 7] {
+fn refused_when_full(filing: Signed, next: Signed, mill: Signed) -> [(Call, Refusal); 7] {
     [
-        (Call::File(filing), 14),
-        (Call::File(next), 16),
-        (Call::File(mill), 11),
-        (Call::Amend(filing), 16),
-        (Call::Amend(next), 15),
-        (withdraw(1, 2022), 16),
-        (withdraw(1, 2023), 15),
+        (Call::File(filing), Refusal::Stands),
+        (Call::File(next), Refusal::Book),
+        (Call::File(mill), Refusal::Unknown),
+        (Call::Amend(filing), Refusal::Book),
+        (Call::Amend(next), Refusal::Vacant),
+        (withdraw(1, 2022), Refusal::Book),
+        (withdraw(1, 2023), Refusal::Vacant),
     ]
 }
 
@@ -457,15 +464,15 @@ fn refusals_in_order(rt: HostRuntime) -> Result<(), Fail> {
     let filing = station_year(2022, 300_000, 50, 899)?;
     let next = station_year(2023, 300_000, 0, 0)?;
     let mill = mill_year(2019, 2_000_000)?;
-    let mut register = history(&rt, heap, &[])?;
-    refuses(&rt, heap, &mut register, &refused_at_first(filing))?;
-    then(&rt, &mut register, &opening(filing));
+    let mut history = History::new(&rt, heap, &[])?;
+    history.refuses(&refused_at_first(filing))?;
+    history.then(&opening(filing));
     let standing = refused_after_one(filing, next, mill);
-    refuses(&rt, heap, &mut register, &standing)?;
-    repeat(&mut register, Call::Amend(filing), 30);
-    then(&rt, &mut register, &[(Call::Amend(filing), Ok(Number(32)))]);
+    history.refuses(&standing)?;
+    history.repeat(Call::Amend(filing), 30);
+    history.then(&[(Call::Amend(filing), Ok(Number(32)))]);
     let full = refused_when_full(filing, next, mill);
-    refuses(&rt, heap, &mut register, &full)?;
+    history.refuses(&full)?;
     let closing = [
         (Call::Enrol(MILL), Ok(Enrolled)),
         (Call::TakeBack, Ok(Number(33))),
@@ -474,6 +481,6 @@ fn refusals_in_order(rt: HostRuntime) -> Result<(), Fail> {
         (at(2, 2019), Ok(Limit(2_000, 34))),
         (Call::Close, Ok(Closed)),
     ];
-    then(&rt, &mut register, &closing);
-    refuses(&rt, heap, &mut register, &[(Call::TakeBack, 17)])
+    history.then(&closing);
+    history.refuses(&[(Call::TakeBack, Refusal::Bare)])
 }
