@@ -8,7 +8,7 @@ mod making;
 mod tests;
 
 use crate::making::{Sample, file, samples};
-use anyhow::anyhow;
+use anyhow::{anyhow, ensure};
 use codec::record::{Record, Records};
 use std::{env, fs};
 
@@ -38,9 +38,7 @@ fn tell(rt: &HostRuntime, bytes: &[u8]) -> anyhow::Result<()> {
 fn compare(rt: &HostRuntime, sample: Sample) -> anyhow::Result<()> {
     let made = file(rt.alloc(), sample)?;
     let shipped = fs::read(rt, sample.name)?;
-    if made != shipped {
-        return Err(anyhow!("a sample file is not as it is made"));
-    }
+    ensure!(made == shipped, "a sample file is not as it is made");
     println!(rt; "{}: {} bytes, as they are made", sample.name, made.len())?;
     tell(rt, &made)
 }

@@ -2,34 +2,40 @@
 use crate::making::{file, record, samples};
 use codec::faults::ReadFault;
 use codec::reader::read;
-use codec::record::{Record, Records};
+use codec::record::Records;
 use codec::writer::write;
 use filing::draft::Draft;
 use std::alloc::{AllocError, Global};
 use std::test::Fail;
 
 // Texts and no values: what a refusal prints is promised too, and with values it would need tests of its own.
-/// A reading in words.
-fn told(heap: Global, record: Result<Record, ReadFault>) -> Result<String, AllocError> {
-    match record {
-        Ok(Record { used, version, .. }) => format!(in heap; "{used} bytes in version {version}"),
+/// A reading in words: the bytes used and the version, or the refusal.
+fn told(heap: Global, reading: Result<(usize, u16), ReadFault>) -> Result<String, AllocError> {
+    match reading {
+        Ok((used, version)) => format!(in heap; "{used} bytes in version {version}"),
         Err(fault) => format!(in heap; "{fault}"),
     }
 }
 
 /// What the reader answers, in words.
 fn answer(heap: Global, bytes: &[u8]) -> Result<String, AllocError> {
-    told(heap, Record::read(bytes))
+    told(heap, read(bytes, &mut Draft::blank().sign()))
 }
 
-/// What it answers for the records one after another, each in a line.
+/// What the records answer one after another, each in a line.
 fn answers(heap: Global, bytes: &[u8]) -> Result<String, AllocError> {
     let mut all = String::new(heap);
     for record in Records::from(bytes) {
-        all.push_str(&told(heap, record)?)?;
+        let reading = record.map(|record| (record.used, record.version));
+        all.push_str(&told(heap, reading)?)?;
         all.push('\n')?;
     }
     Ok(all)
+}
+
+/// The first `count` bytes, or all where there are fewer.
+fn front(bytes: &[u8], count: usize) -> &[u8] {
+    bytes.get(..count).unwrap_or(bytes)
 }
 
 /// What the reader answers where the bytes from a place on are others.
@@ -143,16 +149,16 @@ fn order_and_place(rt: HostRuntime) -> Result<(), Fail> {
     let whole = record(heap, sample)?;
     assert!(rt; whole.len() == 189);
     assert_eq!(rt;
-        answer_with(heap, &whole[..76], 20, &9u64.to_be_bytes())?.as_str(),
+        answer_with(heap, front(&whole, 76), 20, &9u64.to_be_bytes())?.as_str(),
         "5 range code 1 line 0"
     );
     let mut signed = Draft::blank().sign();
     assert!(rt; read(&whole, &mut signed).is_ok());
-    assert!(rt; read(&whole[..188], &mut signed).is_err());
+    assert!(rt; read(front(&whole, 188), &mut signed).is_err());
     assert_eq!(rt; signed.filing().count(), 2);
     let mut buffer = [7u8; 200];
     assert!(rt; write(&signed, &mut buffer).is_ok());
-    assert!(rt; buffer[..189] == whole[..189] && buffer[189] == 7 && buffer[199] == 7);
+    assert!(rt; buffer.starts_with(&whole) && buffer[189] == 7 && buffer[199] == 7);
     let mut small = [7u8; 188];
     assert!(rt; write(&signed, &mut small).is_err());
     assert!(rt; small[0] == 7 && small[187] == 7);
@@ -172,7 +178,7 @@ fn one_after_another(rt: HostRuntime) -> Result<(), Fail> {
         "77 bytes in version 3\n189 bytes in version 3\n"
     );
     assert_eq!(rt;
-        answers(heap, &both[..265])?.as_str(),
+        answers(heap, front(&both, 265))?.as_str(),
         "77 bytes in version 3\n1 cut length 188\n"
     );
     both[0] = 0;
