@@ -1,5 +1,5 @@
 //! The fields of a head and of a line by their codes, eight bytes each.
-ghost use Rattle.std.specs.Prelude.{◌≡◌, ℕ, ◌*◌, ◌≤◌, List, length, take};
+ghost use Rattle.std.specs.Prelude.{◌≡◌, ℕ, ◌*◌, ◌≤◌, length, take};
 ghost use Rattle.codec.specs.Fields.{field as field_of, head_of, line_of, head_field, line_field};
 ghost use Rattle.codec.specs.Numbers.{number as number_of};
 
@@ -15,20 +15,13 @@ pub(crate) struct Values<'a> {
 }
 
 /// The fields of one part of a record, each with its code.
-pub(crate) trait Coded: Sized {
+pub(crate) trait Coded {
     // The field with a code.
     ghost field: { Self → ℕ → ℕ };
-
-    // What codes and the bytes of their fields make.
-    ghost made: { List ℕ → List ℕ → Self };
 
     /// The field with a code, and 0 where there is none.
     fn value(&self, code: u8) -> u64
         ensures { result ≡ field self.now code };
-
-    /// What the values make: a field whose code they lack is 0.
-    fn of(values: &Values<'_>) -> Self
-        ensures { result ≡ made values.now.codes.list.now values.now.bytes.now };
 }
 
 /// The number that the first eight bytes write.
@@ -54,8 +47,6 @@ impl Values<'_> {
 impl Coded for HeadFields {
     ghost field = { head_field };
 
-    ghost made = { head_of };
-
     // By number, as the schema has codes; 0 for a code that has no field here, which is what the format says of it.
     fn value(&self, code: u8) -> u64 {
         match code {
@@ -69,8 +60,13 @@ impl Coded for HeadFields {
             _ => 0,
         }
     }
+}
 
-    fn of(values: &Values<'_>) -> HeadFields {
+/// What the values make: a field whose code they lack is 0.
+impl From<&Values<'_>> for HeadFields {
+    ghost from_gives = { λ values head. head ≡ head_of values.now.codes.list.now values.now.bytes.now };
+
+    fn from(values: &Values<'_>) -> HeadFields {
         HeadFields {
             facility: values.field(1),
             year: values.field(2),
@@ -86,8 +82,6 @@ impl Coded for HeadFields {
 impl Coded for LineFields {
     ghost field = { line_field };
 
-    ghost made = { line_of };
-
     fn value(&self, code: u8) -> u64 {
         match code {
             21 => self.kind,
@@ -100,8 +94,13 @@ impl Coded for LineFields {
             _ => 0,
         }
     }
+}
 
-    fn of(values: &Values<'_>) -> LineFields {
+/// What the values make: a field whose code they lack is 0.
+impl From<&Values<'_>> for LineFields {
+    ghost from_gives = { λ values line. line ≡ line_of values.now.codes.list.now values.now.bytes.now };
+
+    fn from(values: &Values<'_>) -> LineFields {
         LineFields {
             kind: values.field(21),
             number: values.field(22),

@@ -5,7 +5,7 @@ ghost use Rattle.codec.specs.Answers.{Says, Took};
 ghost use Rattle.codec.specs.Reading.{opening as opening_of, schema as schema_of, head_at, headed as headed_of, counted as counted_of, lined as lined_of, body as body_of};
 
 use crate::faults::ReadFault;
-use crate::fields::{Coded, Values};
+use crate::fields::Values;
 use crate::input::Input;
 use crate::table::{Codes, first_off};
 use filing::draft::Draft;
@@ -34,72 +34,67 @@ pub(crate) fn opening(bytes: &[u8]) -> Result<u16, ReadFault>
     Ok(u16::from_be_bytes(*version))
 }
 
-/// Compares the schema with the row of the version.
-#[tactic(auto, using(crate::proofs::Steps::schema_passed))]
-pub(crate) fn schema(row: Codes, input: &mut Input<'_>) -> Result<(), ReadFault>
-    requires { input.old.at ≡ 5 }
-    ensures { Took (λ x. x) result (schema_of row.list.now input.old.bytes.now) input.old input.new (6 + length row.list.now) }
-{
-    let count = input.part(1)?;
-    let codes = input.part(usize::from(count[0]))?;
-    match first_off(codes, row.list) {
-        Some(line) => Err(ReadFault::Schema { line }),
-        None => Ok(()),
+impl Input<'_> {
+    /// Compares the schema, which stands next, with the row of the version.
+    #[tactic(auto, using(crate::proofs::Steps::schema_passed))]
+    pub(crate) fn schema(&mut self, row: Codes) -> Result<(), ReadFault>
+        requires { self.old.at ≡ 5 }
+        ensures { Took (λ x. x) result (schema_of row.list.now self.old.bytes.now) self.old self.new (6 + length row.list.now) }
+    {
+        let count = self.part(1)?;
+        let codes = self.part(usize::from(count[0]))?;
+        match first_off(codes, row.list) {
+            Some(line) => Err(ReadFault::Schema { line }),
+            None => Ok(()),
+        }
     }
-}
 
-/// A draft with the head that stands next.
-fn headed(codes: Codes, input: &mut Input<'_>) -> Result<Draft, ReadFault>
-    ensures { Took drafted result (headed_of codes.list.now input.old.at input.old.bytes.now) input.old input.new (input.old.at + 8 * length codes.list.now) }
-{
-    let found = input.part(codes.size())?;
-    let mut draft = Draft::blank();
-    draft.set_head(HeadFields::of(&Values {
-        codes,
-        bytes: found,
-    }))?;
-    Ok(draft)
-}
-
-/// The count of lines that stands next.
-fn counted(input: &mut Input<'_>) -> Result<usize, ReadFault>
-    ensures { Took (λ n. n) result (counted_of input.old.at input.old.bytes.now) input.old input.new (input.old.at + 1) }
-{
-    let found = input.part(1)?;
-    let count = usize::from(found[0]);
-    if count > MOST_LINES {
-        return Err(ReadFault::Filing(FilingFault::Lines));
+    /// A draft with the head that stands next.
+    fn headed(&mut self, codes: Codes) -> Result<Draft, ReadFault>
+        ensures { Took drafted result (headed_of codes.list.now self.old.at self.old.bytes.now) self.old self.new (self.old.at + 8 * length codes.list.now) }
+    {
+        let bytes = self.part(codes.size())?;
+        let mut draft = Draft::blank();
+        draft.set_head(HeadFields::from(&Values { codes, bytes }))?;
+        Ok(draft)
     }
-    Ok(count)
-}
 
-/// Adds the lines that stand next.
-#[tactic(auto, using(crate::proofs::Steps::lined_cut))]
-fn lined(
-    codes: Codes,
-    count: usize,
-    input: &mut Input<'_>,
-    draft: Draft,
-) -> Result<Draft, ReadFault>
-    ensures { Says (λ full. (input.new.at, drafted full)) result (lined_of codes.list.now count input.old.at input.old.bytes.now (drafted draft)) }
-{
-    let size = codes.size();
-    let mut full = draft;
-    for _line in 0..count {
-        let bytes = input.part(size)?;
-        full.add_line(LineFields::of(&Values { codes, bytes }))?;
+    /// The count of lines that stands next.
+    fn counted(&mut self) -> Result<usize, ReadFault>
+        ensures { Took (λ n. n) result (counted_of self.old.at self.old.bytes.now) self.old self.new (self.old.at + 1) }
+    {
+        let found = self.part(1)?;
+        let count = usize::from(found[0]);
+        if count > MOST_LINES {
+            return Err(ReadFault::Filing(FilingFault::Lines));
+        }
+        Ok(count)
     }
-    Ok(full)
-}
 
-/// The filing, from the head on.
-#[tactic(auto, using(crate::proofs::Steps::body_count, crate::proofs::Steps::body_lines))]
-pub(crate) fn body(row: Codes, input: &mut Input<'_>) -> Result<Signed, ReadFault>
-    requires { input.old.at ≡ head_at row.list.now }
-    ensures { Says (λ signed. (input.new.at, filed signed)) result (body_of row.list.now input.old.bytes.now) }
-{
-    let draft = headed(row.head(), input)?;
-    let count = counted(input)?;
-    let full = lined(row.line(), count, input, draft)?;
-    Ok(full.sign())
+    /// A draft with the lines that stand next added.
+    #[tactic(auto, using(crate::proofs::Steps::lined_cut))]
+    fn lined(&mut self, codes: Codes, count: usize, draft: Draft) -> Result<Draft, ReadFault>
+        ensures { Says (λ full. (self.new.at, drafted full)) result (lined_of codes.list.now count self.old.at self.old.bytes.now (drafted draft)) }
+    {
+        let size = codes.size();
+        let mut full = draft;
+        for _line in 0..count {
+            let bytes = self.part(size)?;
+            full.add_line(LineFields::from(&Values { codes, bytes }))?;
+        }
+        Ok(full)
+    }
+
+    /// The filing, from the head on.
+    #[tactic(auto, using(crate::proofs::Steps::body_count, crate::proofs::Steps::body_lines))]
+    pub(crate) fn body(&mut self, row: Codes) -> Result<Signed, ReadFault>
+        requires { self.old.at ≡ head_at row.list.now }
+        ensures { Says (λ signed. (self.new.at, filed signed)) result (body_of row.list.now self.old.bytes.now) }
+    {
+        let (head, line) = row.split();
+        let draft = self.headed(head)?;
+        let count = self.counted()?;
+        let full = self.lined(line, count, draft)?;
+        Ok(full.sign())
+    }
 }

@@ -8,7 +8,7 @@ ghost use Rattle.codec.specs.Records.{records_of, records_left, said};
 
 use crate::faults::ReadFault;
 use crate::input::Input;
-use crate::parts::{COUNT_AT, body, opening, schema};
+use crate::parts::{COUNT_AT, opening};
 use crate::table::row_of;
 use filing::signed::Signed;
 
@@ -32,8 +32,8 @@ impl Record {
             bytes,
             at: COUNT_AT,
         };
-        schema(row.codes, &mut input)?;
-        let signed = body(row.codes, &mut input)?;
+        input.schema(row.codes)?;
+        let signed = input.body(row.codes)?;
         Ok(Record {
             used: input.at,
             version,

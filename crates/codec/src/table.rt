@@ -68,22 +68,13 @@ impl Codes {
             .count()
     }
 
-    /// The codes of the head.
-    pub fn head(self) -> Codes
-        ensures { result.list.now ≡ head_codes self.list.now }
+    /// The codes of the head, and those of a line.
+    pub fn split(self) -> (Codes, Codes)
+        ensures head { result.0.list.now ≡ head_codes self.list.now }
+        ensures line { result.1.list.now ≡ line_codes self.list.now }
     {
-        Codes {
-            list: &self.list[..self.heads()],
-        }
-    }
-
-    /// The codes of a line.
-    pub fn line(self) -> Codes
-        ensures { result.list.now ≡ line_codes self.list.now }
-    {
-        Codes {
-            list: &self.list[self.heads()..],
-        }
+        let (head, line) = self.list.split_at(self.heads());
+        (Codes { list: head }, Codes { list: line })
     }
 }
 

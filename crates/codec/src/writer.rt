@@ -8,16 +8,18 @@ ghost use Rattle.codec.specs.Writing.{field_bytes, line_bytes, opening_bytes, wr
 
 use crate::faults::WriteFault;
 use crate::fields::Coded;
+use crate::parts::COUNT_AT;
 use crate::table::{Codes, Row, written};
 use filing::fields::{HeadFields, LineFields};
 use filing::parts::Line;
 use filing::signed::Signed;
 
 /// How many bytes stand before the schema's codes: the mark, the version and the count of the codes.
-const FRONT: usize = 6;
+const FRONT: usize = COUNT_AT + 1;
 
 /// A buffer that is filled from the front, one part after another.
-// No `Vec`: the writer takes no memory, and fills its caller's buffer in place.
+// No `Vec`: the writer takes no memory. No `Write` for `&mut [u8]`: std's says nothing of the bytes that it wrote,
+// and a slice that shrinks can't say where it stands.
 #[derive(Drop)]
 struct Output<'a> {
     buffer: &'a mut [u8],
@@ -76,8 +78,7 @@ pub fn write(filing: &Signed, buffer: &mut [u8]) -> Result<usize, WriteFault>
 {
     let report = filing.filing();
     let row = written();
-    let head = row.codes.head();
-    let line = row.codes.line();
+    let (head, line) = row.codes.split();
     let size = FRONT + row.codes.list.len() + head.size() + 1 + line.size() * report.count();
     if buffer.len() < size {
         return Err(WriteFault::Short);

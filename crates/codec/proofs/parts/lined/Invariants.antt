@@ -1,8 +1,0 @@
-use Rattle.std.proofs.Common.{◌≡◌, ◌-◌}
-use Rattle.filing.specs.Views.{drafted}
-use Rattle.codec.specs.Reading.{lined}
-use Rattle.codec.proofs.parts.lined.Given as goal
-
-abbrev pub invariant-loop-line : goal.invariant-loop-line
-invariant-loop-line l =
-    lined l.codes.list.now (l.count - l._line) l.input.at l.input.bytes.now (drafted l.full) ≡ lined l.codes.list.now l.count l.initial.input.at l.initial.input.bytes.now (drafted l.initial.full)
