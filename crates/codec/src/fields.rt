@@ -1,5 +1,5 @@
 //! The fields of a head and of a line by their codes, eight bytes each.
-ghost use Rattle.std.specs.Prelude.{◌≡◌, ℕ, ◌*◌, ◌≤◌, length, take};
+ghost use Rattle.std.specs.Prelude.{◌≡◌, ℕ, ◌*◌, ◌≤◌, length};
 ghost use Rattle.codec.specs.Fields.{field as field_of, head_of, line_of, head_field, line_field};
 ghost use Rattle.codec.specs.Numbers.{number as number_of};
 
@@ -24,12 +24,11 @@ pub(crate) trait Coded {
         ensures { result ≡ field self.now code };
 }
 
-/// The number that the first eight bytes write.
-fn number(bytes: &[u8]) -> u64
-    requires { 8 ≤ length bytes.now }
-    ensures { result ≡ number_of (take 8 bytes.now) }
+/// The number that a field's bytes write.
+fn number(bytes: &[u8; FIELD]) -> u64
+    ensures { result ≡ number_of bytes.now }
 {
-    u64::from_be_bytes(*bytes.first_chunk().unwrap())
+    u64::from_be_bytes(*bytes)
 }
 
 impl Values<'_> {
@@ -37,8 +36,10 @@ impl Values<'_> {
     fn field(&self, code: u8) -> u64
         ensures { result ≡ field_of self.now.codes.list.now self.now.bytes.now code }
     {
-        match self.codes.list.iter().position(|own| *own == code) {
-            Some(i) => number(&self.bytes[FIELD * i..]),
+        let (fields, _) = self.bytes.as_chunks::<FIELD>();
+        let mut coded = self.codes.list.iter().zip(fields);
+        match coded.find(|(own, _)| **own == code) {
+            Some((_, bytes)) => number(bytes),
             None => 0,
         }
     }
