@@ -63,6 +63,7 @@ impl Input<'_> {
     fn counted(&mut self) -> Result<usize, ReadFault>
         ensures { Took (λ n. n) result (counted_of self.old.at self.old.bytes.now) self.old self.new (self.old.at + 1) }
     {
+        // A byte as in `schema`: a method for the two would need a definition beside theirs, and lemmas between them.
         let found = self.part(1)?;
         let count = usize::from(found[0]);
         if count > MOST_LINES {

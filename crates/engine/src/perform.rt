@@ -46,6 +46,7 @@ pub fn run(
     let mut answers = Vec::with_capacity(heap, steps.len())?;
     let mut engine = Engine::new(heap)?;
     // No chain: its closure would change the engine, and a chain says nothing of what its closure changes.
+    // Nor a trait over this loop and the register's: with its ghost members and two impls it is longer than both.
     for step in steps {
         answers.push_reserved(engine.perform(*step));
     }

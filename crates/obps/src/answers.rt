@@ -29,10 +29,10 @@ pub struct Misreading<'a> {
 
 impl<'a> Misreading<'a> {
     /// The misreading of a line with these words.
-    pub fn of(words: &[&'a [u8]], misread: Misread) -> Misreading<'a> {
+    pub(crate) fn of(words: &[&'a [u8]], misread: Misread) -> Misreading<'a> {
         Misreading {
-            step: word(words, 1).unwrap_or(b""),
-            wrong: word(words, misread.at()).unwrap_or(b""),
+            step: words.first().copied().unwrap_or_default(),
+            wrong: word(words, misread.at()).unwrap_or_default(),
             misread,
         }
     }
@@ -89,6 +89,7 @@ impl fmt::Display for Said {
 
 /// The steps that have numbers: the word of each, and what the words after it are called.
 // The reader of steps keeps places only: the names are the program's, in its messages and its help.
+// The help says them once more: its text is one literal, which is printed as it is and can name no other.
 const USAGES: &[&[&str]] = &[
     &[
         "head", "FACILITY", "YEAR", "CO2", "CH4", "N2O", "SF6", "CAPTURED",

@@ -1,5 +1,5 @@
 //! A journal, performed line by line.
-use crate::answers::{Misreading, Said, Summary, word};
+use crate::answers::{Misreading, Said, Summary};
 use crate::failures::Failure;
 use codec::record::Record;
 use journal::desk::Desk;
@@ -94,7 +94,10 @@ fn respond<'a>(
         .map_err(NotUnderstood::Step)?;
     let text = asked.map(|step| {
         let said = Said(desk.perform(step));
-        format!(in heap; "{}\t{said}", Excerpt(word(words, 1).unwrap_or(b"")))
+        format!(in heap;
+            "{}\t{said}",
+            Excerpt(words.first().copied().unwrap_or_default())
+        )
     });
     Ok(text.transpose()?)
 }
@@ -114,6 +117,7 @@ pub(crate) fn answer<'a>(
 }
 
 /// Performs a journal and prints the answer to each of its lines.
+// No helper for this frame and `show`'s: its closure would hand a count here and a refusal there through the flush.
 pub(crate) fn run(rt: &HostRuntime, text: &[u8]) -> Result<(), Failure> {
     let mut out = BufWriter::new(rt.alloc(), rt.stdout()).map_err(|_| Failure::Memory)?;
     let mut desk = Desk::new();
