@@ -1,6 +1,6 @@
 //! Rounding, each time once and from the exact quotient.
-ghost use Rattle.std.specs.Prelude.{◌≡◌, ℕ, ◌+◌, ◌/◌, ◌<◌};
-ghost use Rattle.quantity.specs.Rounding.{nearest, Nearest};
+ghost use Rattle.std.specs.Prelude.{◌≡◌, ◌+◌, ◌/◌, ◌<◌};
+ghost use Rattle.quantity.specs.Rounding.{nearest, Nearest, Only};
 ghost use Rattle.quantity.specs.Figures.{figure, Figure, unit_of, three_figures, ThreeFigures};
 
 use crate::units::{Kilograms, Production, Quotient, Tonnes};
@@ -10,7 +10,7 @@ use crate::units::{Kilograms, Production, Quotient, Tonnes};
 pub fn nearest_whole(q: Quotient) -> u64
     ensures value { result ≡ nearest q.num q.den }
     ensures near { Nearest q.num q.den result }
-    ensures only { (s : ℕ) → Nearest q.num q.den s → s ≡ result }
+    ensures only { Only (Nearest q.num q.den) result }
 {
     let num = u128::from(q.num);
     let den = u128::from(q.den);
@@ -39,7 +39,7 @@ fn figure(q: Quotient) -> u64
 pub fn three_figures(q: Quotient) -> u64
     ensures value { result ≡ three_figures q.num q.den }
     ensures meets { ThreeFigures q.num q.den result }
-    ensures only { (s : ℕ) → ThreeFigures q.num q.den s → s ≡ result }
+    ensures only { Only (ThreeFigures q.num q.den) result }
 {
     let unit = unit_of(q);
     let figures = figure(Quotient {
@@ -54,7 +54,7 @@ impl Production {
     pub fn rounded(self) -> Production
         ensures value { result.thousandths ≡ three_figures self.thousandths 1 }
         ensures meets { ThreeFigures self.thousandths 1 result.thousandths }
-        ensures only { (s : ℕ) → ThreeFigures self.thousandths 1 s → s ≡ result.thousandths }
+        ensures only { Only (ThreeFigures self.thousandths 1) result.thousandths }
         ensures small { self.thousandths < 1000 → result.thousandths ≡ self.thousandths }
     {
         let exact = Quotient {
@@ -72,7 +72,7 @@ impl Kilograms {
     pub fn in_tonnes(self) -> Tonnes
         ensures value { result.tonnes ≡ (self.kg + 500) / 1000 }
         ensures near { Nearest self.kg 1000 result.tonnes }
-        ensures only { (s : ℕ) → Nearest self.kg 1000 s → s ≡ result.tonnes }
+        ensures only { Only (Nearest self.kg 1000) result.tonnes }
     {
         let exact = Quotient {
             num: self.kg,
