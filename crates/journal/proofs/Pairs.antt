@@ -1,10 +1,11 @@
 -- The bytes that the decoder of hexadecimal text gives are those of the pairs of digits.
-use Rattle.std.proofs.Common.{◌≡◌, ℕ, ◌+◌, ◌*◌, ◌%◌, true, ◌==◌, eqb, List, [], ◌∷◌, ◌++◌, length, take, drop, Some, None, Option, Ok, Err, Result, sym, refl, ap, ◌∙◌, append_assoc, arith}
-use Rattle.std.specs.Option.{option_map}
-use Rattle.std.proofs.lemmas.Bool.{cond_both, cond-true, eqb-true}
+use Rattle.std.proofs.Common.{◌≡◌, ℕ, ◌+◌, ◌*◌, ◌/◌, ◌%◌, true, ◌==◌, eqb, List, [], ◌∷◌, ◌++◌, length, take, drop, Some, None, Option, Ok, Err, Result, MatchResult, sym, refl, ap, ◌∙◌, append_assoc, arith}
+use Rattle.std.specs.Option.{option_map, MatchOption, IsSomeAnd}
+use Rattle.std.specs.Result.{result_ok}
+use Rattle.std.proofs.lemmas.Bool.{cond_both, cond-true, eqb-true, eqb-false}
 use Rattle.hex.specs.declared.error.FromHexError.{FromHexError}
 use lib.Pointwise.{pointwise}
-use Rattle.hex.specs.Hex.{hex_digit_value, value_at, pair_value, decode_pairs, decode_of, digit_or_error, ◌>>=◌}
+use Rattle.hex.specs.Hex.{hex_digit_value, value_at, pair_value, decode_pairs, decode_sized, digit_or_error, ◌>>=◌}
 use Rattle.journal.specs.Sources.{is_hex, hex_digit, both, hex_byte, hex_bytes, unhexed}
 
 abbrev pub decoded : {A : Type 0} → Result A FromHexError → Option A
@@ -53,8 +54,11 @@ odd [] h = absurd (omega arith)
 odd (a ∷ []) h = refl
 odd (a ∷ b ∷ ds) h = ap (both (λ x xs. x ∷ xs) (hex_byte a b)) (odd ds (omega arith)) ∙ none_after _ (hex_byte a b)
 
-whole_is : (ds : List ℕ) → decoded (decode_of ds) ≡ hex_bytes ds
-whole_is ds = cond_both (length ds % 2 == 1) (Err FromHexError.OddLength) (decode_pairs 0 ds) (λ r. decoded r ≡ hex_bytes ds) (λ t. sym (odd ds (eqb-true _ _ t))) (λ t. pairs_are 0 ds)
+sized_are : (ds : List ℕ) (n : ℕ) → n ≡ length ds / 2 → decoded (decode_sized ds n) ≡ hex_bytes ds
+sized_are ds n e =
+    cond_both (length ds % 2 == 1) (Err FromHexError.OddLength) _ (λ r. decoded r ≡ hex_bytes ds)
+    (λ t. sym (odd ds (eqb-true _ _ t)))
+    (λ t. cond_both (length ds / 2 == n) (decode_pairs 0 ds) (Err FromHexError.InvalidStringLength) (λ r. decoded r ≡ hex_bytes ds) (λ u. pairs_are 0 ds) (λ u. absurd (eqb-false _ _ u (sym e))))
 
 prefixed : (w : List ℕ) → pointwise eqb (take 2 w) (48 ∷ 120 ∷ []) ≡ true → is_hex w ≡ true
 prefixed [] h = grind arith
@@ -62,8 +66,16 @@ prefixed (a ∷ []) h = grind arith
 prefixed (a ∷ b ∷ bs) h = grind arith
 
 -- what is decoded of the digits after `0x` is what the word writes
-pub whole : (w ds : List ℕ) (r : Result (List ℕ) FromHexError) → pointwise eqb (take 2 w) (48 ∷ 120 ∷ []) ≡ true → ds ≡ drop 2 w → decode_of ds ≡ r → decoded r ≡ unhexed w
-whole w ds r t e h = ap decoded (sym h) ∙ whole_is ds ∙ ap hex_bytes e ∙ sym (cond-true (is_hex w) (hex_bytes (drop 2 w)) None (prefixed w t))
+pub whole : (w ds : List ℕ) (n : ℕ) → pointwise eqb (take 2 w) (48 ∷ 120 ∷ []) ≡ true → ds ≡ drop 2 w → n ≡ length ds / 2 → decoded (decode_sized ds n) ≡ unhexed w
+whole w ds n t e h = sized_are ds n h ∙ ap hex_bytes e ∙ sym (cond-true (is_hex w) (hex_bytes (drop 2 w)) None (prefixed w t))
+
+-- what is kept of an answer of the decoder is what it decoded
+pub answered : {V : Type 0} (f : V → List ℕ) (d : Result (List ℕ) FromHexError) (r : Result (Unit {0}) FromHexError) (m : Option V) (out : List ℕ) (P : Unit {0} → V → Type 0) → MatchResult d (λ bytes. (r ≡ Ok tt) × (out ≡ bytes)) (λ e. r ≡ Err e) → MatchOption (result_ok r) (m ≡ None) (λ x. IsSomeAnd m (P x)) → ((x : Unit {0}) (v : V) → P x v → f v ≡ out) → option_map f m ≡ decoded d
+answered f (Ok bytes) (Ok x) None out P h g is = absurd g
+answered f (Ok bytes) (Ok x) (Some v) out P h g is = ap Some (is x v g ∙ h.1)
+answered f (Ok bytes) (Err e) m out P h g is = grind (arith, h.0)
+answered f (Err e) (Ok x) m out P h g is = grind (arith, h)
+answered f (Err e) (Err d) m out P h g is = rw g refl
 
 -- the bytes that are done, before those of the digits to come
 abbrev pub joined : List ℕ → Option (List ℕ) → Option (List ℕ)

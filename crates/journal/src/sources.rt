@@ -4,7 +4,6 @@ ghost use Rattle.std.specs.Option.{option_map};
 ghost use Rattle.journal.specs.Words.{contents};
 ghost use Rattle.journal.specs.Sources.{record_word, is_hex, unhexed as unhexed_of, Sized};
 
-use hex::FromHexError;
 use std::alloc::{AllocError, Global};
 
 /// The second word of a line that is exactly `sign` and one more word.
@@ -33,10 +32,7 @@ pub fn unhexed(heap: Global, word: &[u8]) -> Result<Option<Vec<u8>>, AllocError>
     let Some(digits) = word.strip_prefix(b"0x") else {
         return Ok(None);
     };
-    // Of the decoder's errors only a want of memory is one here, and `hex` has no `From` that tells it apart.
-    match hex::decode(heap, digits) {
-        Ok(bytes) => Ok(Some(bytes)),
-        Err(FromHexError::OutOfMemory) => Err(AllocError),
-        Err(_) => Ok(None),
-    }
+    let mut bytes = vec![in heap; 0u8; digits.len() / 2]?;
+    let decoded = hex::decode_to_slice(digits, &mut bytes).ok();
+    Ok(decoded.map(|()| bytes))
 }

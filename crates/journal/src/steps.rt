@@ -72,7 +72,7 @@ fn numbers<const N: usize>(words: &[&[u8]]) -> Result<[u64; N], Misread>
     }
 }
 
-// `head` and `line` differ in the names of their fields alone: a `From<[u64; 7]>` would write the same names elsewhere.
+// `head` and `line` put seven numbers into the named fields of two structs: what is one for both would need, for each, a conversion from an array, and those write the same names.
 fn head(words: &[&[u8]]) -> Result<Step, Misread>
     ensures { result ≡ headed (contents words.now) }
 {
