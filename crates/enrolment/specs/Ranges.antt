@@ -15,6 +15,14 @@ in_ranges e =
     && (between 1 3 e.choice
     && between 1 100 e.factor))))
 
+-- those of the fields that are no kind and no choice
+abbrev pub numbers_in_ranges : EnrolmentFields → Bool
+numbers_in_ranges e =
+    between 1 4 e.facility
+    && (between 1900 2036 e.year
+    && (between 1 (days_in e.year) e.day
+    && between 1 100 e.factor))
+
 abbrev pub From : ℕ → ℕ → ℕ → Type 0
 From least most n = (least ≤ n) × (n ≤ most)
 

@@ -1,7 +1,7 @@
 //! How an enrolment is made from bare numbers, and which years it leaves without a limit.
 ghost use Rattle.std.specs.Prelude.{◌≡◌};
 ghost use Rattle.enrolment.specs.Exempt.{first_year, exempt as exempt_year, FirstYear};
-ghost use Rattle.enrolment.specs.Ranges.{Lawful};
+ghost use Rattle.enrolment.specs.Ranges.{numbers_in_ranges, Lawful};
 ghost use Rattle.enrolment.specs.Views.{enrolled, Enrols};
 
 use crate::calendar::days_in;
@@ -27,6 +27,16 @@ impl From<Enrolment> for EnrolmentFields {
     }
 }
 
+/// Whether the fields that are plain numbers are in their ranges.
+fn numbers_in_ranges(fields: &EnrolmentFields) -> bool
+    ensures { result ≡ numbers_in_ranges fields.now }
+{
+    (1..=FACILITIES).contains(&fields.facility)
+        && (1900..=LAST_YEAR).contains(&fields.year)
+        && (1..=days_in(fields.year)).contains(&fields.day)
+        && (1..=100).contains(&fields.factor)
+}
+
 /// The enrolment of these fields, refused where one is outside its range.
 impl TryFrom<EnrolmentFields> for Enrolment {
     type Error = EnrolmentFault;
@@ -36,11 +46,7 @@ impl TryFrom<EnrolmentFields> for Enrolment {
     fn try_from(fields: EnrolmentFields) -> Result<Enrolment, EnrolmentFault> {
         let kind = EnrolmentKind::try_from(fields.kind)?;
         let choice = Choice::try_from(fields.choice)?;
-        if !(1..=FACILITIES).contains(&fields.facility)
-            || !(1900..=LAST_YEAR).contains(&fields.year)
-            || !(1..=days_in(fields.year)).contains(&fields.day)
-            || !(1..=100).contains(&fields.factor)
-        {
+        if !numbers_in_ranges(&fields) {
             return Err(EnrolmentFault::Outside);
         }
         Ok(Enrolment {
