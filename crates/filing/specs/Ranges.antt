@@ -1,5 +1,5 @@
 -- The fields of a head and of a line with their ranges, in the order of the codes.
-use Rattle.std.specs.Prelude.{ℕ, ◌+◌, Bool, cond, ◌||◌, List, [], ◌∷◌, Some, None, Option, nat_lt}
+use Rattle.std.specs.Prelude.{ℕ, ◌+◌, Bool, cond, ◌||◌, List, [], ◌∷◌, map, Some, None, Option, nat_lt}
 use Rattle.filing.specs.declared.fields.HeadFields.{HeadFields}
 use Rattle.filing.specs.declared.fields.LineFields.{LineFields}
 use Rattle.filing.specs.declared.kinds.LineKind.{LineKind}
@@ -40,3 +40,7 @@ abbrev pub first_outside : ℕ → List ℕ → List Range → Option ℕ
 first_outside c [] rs = None
 first_outside c (n ∷ ns) [] = None
 first_outside c (n ∷ ns) (r ∷ rs) = cond (outside n r) (Some c) (first_outside (c + 1) ns rs)
+
+-- the same, where each number stands beside its range
+abbrev pub beside_outside : ℕ → List (ℕ × Range) → Option ℕ
+beside_outside c ps = first_outside c (map (λ p. p.0) ps) (map (λ p. p.1) ps)

@@ -17,6 +17,8 @@ pub enum LineKind {
 #[derive(Clone, Copy, Debug, PartialEq, Eq)]
 pub struct UnknownKind(pub u64);
 
+// One impl a type, here and for the kinds of enrolment, since the check refuses a derive of the repository's own.
+
 /// The number that stands for a kind in field 21.
 impl From<LineKind> for u64 {
     ghost from_gives = { λ kind n. n ≡ kind_number kind };

@@ -76,17 +76,17 @@ impl TryFrom<HeadFields> for Head {
     ghost try_from_gives = { HeadMade };
 
     fn try_from(fields: HeadFields) -> Result<Head, FilingFault> {
-        let values = [
-            fields.facility,
-            fields.year,
-            fields.co2,
-            fields.ch4,
-            fields.n2o,
-            fields.sf6,
-            fields.captured,
+        let [facility, year, co2, ch4, n2o, sf6, captured] = head_ranges(&fields);
+        let ranged = [
+            (fields.facility, facility),
+            (fields.year, year),
+            (fields.co2, co2),
+            (fields.ch4, ch4),
+            (fields.n2o, n2o),
+            (fields.sf6, sf6),
+            (fields.captured, captured),
         ];
-        let ranges = head_ranges(&fields);
-        check_ranges(1, &values, &ranges, 0)?;
+        check_ranges(1, &ranged, 0)?;
         Ok(Head {
             facility: fields.facility as u8,
             year: fields.year as u16,
@@ -119,16 +119,16 @@ impl Line {
         requires { kind_of fields.kind ≡ Some kind }
         ensures { LineMade kind fields place result }
     {
-        let values = [
-            fields.number,
-            fields.production,
-            fields.standard,
-            fields.attributed,
-            fields.added,
-            fields.ratio,
+        let [number, production, standard, attributed, added, ratio] = line_ranges(kind);
+        let ranged = [
+            (fields.number, number),
+            (fields.production, production),
+            (fields.standard, standard),
+            (fields.attributed, attributed),
+            (fields.added, added),
+            (fields.ratio, ratio),
         ];
-        let ranges = line_ranges(kind);
-        check_ranges(22, &values, &ranges, place)?;
+        check_ranges(22, &ranged, place)?;
         Ok(Line {
             kind,
             number: fields.number as u16,

@@ -1,8 +1,8 @@
 //! The ranges of the fields, in the order of their codes.
 ghost use Rattle.std.specs.Prelude.{◌≡◌, ◌+◌, ◌<◌, ◌≤◌, IfSome, IfOk, IfErr, Some, None};
-ghost use Rattle.std.specs.List.{zip, position};
+ghost use Rattle.std.specs.List.{position};
 ghost use Rattle.filing.specs.Checks.{out_of_range};
-ghost use Rattle.filing.specs.Ranges.{◌to◌, head_ranges, line_ranges, outside, first_outside};
+ghost use Rattle.filing.specs.Ranges.{◌to◌, head_ranges, line_ranges, outside, beside_outside};
 ghost use Rattle.filing.specs.Told.{told};
 
 use crate::faults::FilingFault;
@@ -84,31 +84,27 @@ pub(crate) fn line_ranges(kind: LineKind) -> [Range; 6]
 }
 
 /// The place, from 0, of the first value outside its range.
-fn place_outside<const N: usize>(values: &[u64; N], ranges: &[Range; N]) -> Option<usize>
-    ensures place { result ≡ position (λ p. outside p.0 p.1) (zip values.now ranges.now) }
+fn place_outside<const N: usize>(ranged: &[(u64, Range); N]) -> Option<usize>
+    ensures place { result ≡ position (λ p. outside p.0 p.1) ranged.now }
     ensures bound { IfSome result (λ i. i < N) }
 {
-    values
+    ranged
         .iter()
-        .zip(ranges)
         .position(|(value, range)| range.misses(*value))
 }
 
-// Values and ranges are two arrays, since the definitions go through two lists.
-
-/// Refuses the first value outside its range by its code, where the first value has the code `from`, and the line.
+/// Refuses the first value outside the range beside it by its code, where the first value has the code `from`, and the line.
 #[tactic(auto, using(crate::proofs::Outside::outside_at))]
 pub(crate) fn check_ranges<const N: usize>(
     from: usize,
-    values: &[u64; N],
-    ranges: &[Range; N],
+    ranged: &[(u64, Range); N],
     line: usize,
 ) -> Result<(), FilingFault>
     requires { from + N ≤ 100 }
-    ensures passes { IfOk result (λ u. first_outside from values.now ranges.now ≡ None) }
-    ensures refuses { IfErr result (λ e. out_of_range (first_outside from values.now ranges.now) line ≡ Some (told e)) }
+    ensures passes { IfOk result (λ u. beside_outside from ranged.now ≡ None) }
+    ensures refuses { IfErr result (λ e. out_of_range (beside_outside from ranged.now) line ≡ Some (told e)) }
 {
-    match place_outside(values, ranges) {
+    match place_outside(ranged) {
         Some(i) => Err(FilingFault::Range {
             code: from + i,
             line,

@@ -12,6 +12,7 @@ pub struct Signed {
 }
 
 impl Signed {
+    // As of a `Draft`: a trait for the two would be two impls with this same line.
     /// What is filed.
     pub fn filing(&self) -> &Filing
         ensures is { result.now ≡ self.now.filing }

@@ -76,9 +76,20 @@ fn line_refusal(fields: LineFields) -> Option<FilingFault> {
     largest().and_then(|mut draft| draft.add_line(fields)).err()
 }
 
+/// Values on both sides of both ends of a range, and whether each is within. Below 0 comes the largest of all.
+fn edges(least: u64, most: u64) -> [(u64, bool); 5] {
+    [
+        (least, true),
+        (most, true),
+        (most.saturating_add(1), false),
+        (u64::MAX, false),
+        (least.wrapping_sub(1), false),
+    ]
+}
+
 #[test]
 fn head_edges(rt: HostRuntime) {
-    let edges = [
+    let ranges = [
         (1, 1, 4),
         (2, 2017, 2036),
         (3, 0, 100_000_000_000),
@@ -87,27 +98,18 @@ fn head_edges(rt: HostRuntime) {
         (6, 0, 1_000_000),
         (7, 0, 1_000),
     ];
-    for (code, least, most) in edges {
-        let refused = Some(FilingFault::Range { code, line: 0 });
-        assert_eq!(rt; head_refusal(head_with(code, least)), None);
-        assert_eq!(rt; head_refusal(head_with(code, most)), None);
-        assert_eq!(rt;
-            head_refusal(head_with(code, most.saturating_add(1))),
-            refused
-        );
-        assert_eq!(rt; head_refusal(head_with(code, u64::MAX)), refused);
-        if least > 0 {
-            assert_eq!(rt;
-                head_refusal(head_with(code, least.saturating_sub(1))),
-                refused
-            );
+    for (code, least, most) in ranges {
+        let fault = FilingFault::Range { code, line: 0 };
+        for (value, within) in edges(least, most) {
+            let refused = (!within).then_some(fault);
+            assert_eq!(rt; head_refusal(head_with(code, value)), refused);
         }
     }
 }
 
 #[test]
 fn line_edges(rt: HostRuntime) {
-    let edges = [
+    let ranges = [
         (1, 22, 0, 65_535),
         (1, 23, 1, 100_000_000_000),
         (1, 24, 0, 10_000_000),
@@ -124,20 +126,11 @@ fn line_edges(rt: HostRuntime) {
         (3, 26, 0, 1_000),
         (3, 27, 0, 10_000),
     ];
-    for (kind, code, least, most) in edges {
-        let refused = Some(FilingFault::Range { code, line: 1 });
-        assert_eq!(rt; line_refusal(line_with(kind, code, least)), None);
-        assert_eq!(rt; line_refusal(line_with(kind, code, most)), None);
-        assert_eq!(rt;
-            line_refusal(line_with(kind, code, most.saturating_add(1))),
-            refused
-        );
-        assert_eq!(rt; line_refusal(line_with(kind, code, u64::MAX)), refused);
-        if least > 0 {
-            assert_eq!(rt;
-                line_refusal(line_with(kind, code, least.saturating_sub(1))),
-                refused
-            );
+    for (kind, code, least, most) in ranges {
+        let fault = FilingFault::Range { code, line: 1 };
+        for (value, within) in edges(least, most) {
+            let refused = (!within).then_some(fault);
+            assert_eq!(rt; line_refusal(line_with(kind, code, value)), refused);
         }
     }
 }
