@@ -61,6 +61,7 @@ fn numbers<const N: usize>(words: &[&[u8]]) -> Result<[u64; N], Misread>
     ensures { result ≡ numbers_of 2 N (contents words.now) }
 {
     // `array::try_from_fn` does not say that the fault it gives is that of the first word that has one.
+    // By `enumerate` and `get`: tried `(2..).zip(&mut found)` and the next of `words`, and after the loop nothing is known of what `found` holds.
     let mut found = [0; N];
     for (i, figure) in found.iter_mut().enumerate() {
         let word = words.get(i).ok_or(Misread::Missing { at: i + 2 })?;

@@ -1,4 +1,4 @@
-use Rattle.std.proofs.Common.{◌≡◌, ◌/◌, length, drop, vec_items, ◌∙◌, arith, rules}
+use Rattle.std.proofs.Common.{drop, length, vec_items, ◌∙◌, arith, rules}
 use Rattle.std.proofs.lemmas.List.{take_at}
 use Rattle.journal.proofs.Pairs.{whole, answered}
 use Rattle.journal.proofs.sources.unhexed.Goals as goal
@@ -7,8 +7,6 @@ pub returns-clause-bytes : goal.returns-clause-bytes
 returns-clause-bytes c =
     let found = c.in-Some.ensures.cases in
     let out = c.decode_to_slice.new.out in
-    let room : length c.deref_mut.result.now ≡ length c.in-Some.digits.now / 2 = omega (arith, c.deref_mut.ensures.len, c.in_ok-bytes.ensures.len) in
-    let full : length out ≡ c.in_ok-bytes.bytes.len = omega (arith, c.decode_to_slice.auto.out, c.deref_mut.ensures.len) in
-    let kept = take_at out (drop (length out) c.in_ok-bytes.bytes.items) c.in_ok-bytes.bytes.len full in
+    let kept = take_at out (drop (length out) c.in_ok-bytes.bytes.items) c.in_ok-bytes.bytes.len (omega arith) in
     answered vec_items _ c.decode_to_slice.result c.map.result out _ c.decode_to_slice.ensures.value (rw c.ok-decoded.ensures.value at c.map.ensures.cases) (λ x v p. search (rules, kept))
-    ∙ whole c.args.word.now c.in-Some.digits.now _ found.0 found.1 room
+    ∙ whole c.args.word.now c.in-Some.digits.now _ found.0 found.1 (omega (arith, c.in_ok-bytes.ensures.len))
