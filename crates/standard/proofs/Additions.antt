@@ -35,15 +35,20 @@ adds_both unit ds t u a =
     omega (arith, a.triggering, a.other)
 
 module _ (unit y : ℕ) (f : Filing) where
+  -- of the unit's lines as they are kept, the megawatts of those that pass
+  abbrev kept_part : (Dated → Bool) → ℕ
+  kept_part p = sum_by (λ (l : Line). l.added.mw) (filter (λ l. p (dated y (line_fields l))) (filter (λ l. of_unit unit (dated y (line_fields l))) (lines_of f)))
+
   -- what the lines of a filing add, as they are kept and as dated lines
-  lines_part : (p : Dated → Bool) → sum_by (λ (l : Line). l.added.mw) (filter (λ l. of_unit unit (dated y (line_fields l)) && p (dated y (line_fields l))) (lines_of f)) ≡ part p unit (map (dated y) (fields_of f).lines)
+  lines_part : (p : Dated → Bool) → kept_part p ≡ part p unit (map (dated y) (fields_of f).lines)
   lines_part p =
-      sym (sum_by-filter-map (λ m. m.added) (λ m. of_unit unit (dated y m) && p (dated y m)) line_fields (lines_of f))
+      ap (sum_by (λ (l : Line). l.added.mw)) (filter_twice (λ l. p (dated y (line_fields l))) (λ l. of_unit unit (dated y (line_fields l))) (lines_of f))
+      ∙ sym (sum_by-filter-map (λ m. m.added) (λ m. of_unit unit (dated y m) && p (dated y m)) line_fields (lines_of f))
       ∙ sym (sum_by-filter-map megawatts (λ d. of_unit unit d && p d) (dated y) (fields_of f).lines)
       ∙ ap (sum_by megawatts) (sym (filter_twice p (of_unit unit) (map (dated y) (fields_of f).lines)))
 
   -- they add to a unit what those that trigger have, and the others
-  pub adds_lines : (t u : ℕ) → t ≡ sum_by (λ (l : Line). l.added.mw) (filter (λ l. of_unit unit (dated y (line_fields l)) && triggers (dated y (line_fields l))) (lines_of f)) → u ≡ sum_by (λ (l : Line). l.added.mw) (filter (λ l. of_unit unit (dated y (line_fields l)) && rest (dated y (line_fields l))) (lines_of f)) → Adds unit (map (dated y) (fields_of f).lines) t u
+  pub adds_lines : (t u : ℕ) → t ≡ kept_part triggers → u ≡ kept_part rest → Adds unit (map (dated y) (fields_of f).lines) t u
   adds_lines t u a b = record { triggering = a ∙ lines_part triggers; other = b ∙ lines_part rest }
 
   -- six lines add at most six thousand megawatts

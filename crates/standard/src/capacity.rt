@@ -1,8 +1,8 @@
 //! The capacity of a unit that makes electricity from gaseous fuel.
-ghost use Rattle.std.specs.Prelude.{◌≡◌, ℕ, ◌+◌, ◌≤◌, ◌&&◌, not, [], ◌∷◌, map, filter, sum_by};
+ghost use Rattle.std.specs.Prelude.{◌≡◌, ℕ, ◌+◌, ◌≤◌, [], ◌∷◌, map, filter, sum_by};
 ghost use Rattle.filing.specs.Parts.{line_fields};
 ghost use Rattle.filing.specs.Views.{fields_of};
-ghost use Rattle.standard.specs.Adding.{Adds};
+ghost use Rattle.standard.specs.Adding.{Adds, triggers_is};
 ghost use Rattle.standard.specs.Capacity.{dated, lines_at, of_unit, triggers as triggers_in, megawatts, additions, triggering_megawatts, other_megawatts};
 ghost use Rattle.standard.specs.Places.{filing_at};
 ghost use Rattle.standard.specs.Seen.{lines_of, seen};
@@ -40,26 +40,15 @@ struct UnitYear {
 }
 
 impl UnitYear {
-    /// The megawatts that the year's filing adds to the unit, and that trigger the decreasing standard.
-    fn triggering(self, filing: &Filing) -> u64
-        ensures { result ≡ sum_by (λ l. l.added.mw) (filter (λ l. of_unit self.unit (dated self.year (line_fields l)) && triggers_in (dated self.year (line_fields l))) (lines_of filing.now)) }
+    /// The megawatts that the year's filing adds to the unit, and that trigger the decreasing standard, or that don't.
+    fn added(self, filing: &Filing, triggering: bool) -> u64
+        ensures { result ≡ sum_by (λ l. l.added.mw) (filter (λ l. triggers_is triggering (dated self.year (line_fields l))) (filter (λ l. of_unit self.unit (dated self.year (line_fields l))) (lines_of filing.now))) }
     {
         filing
             .lines()
             .iter()
-            .filter(|line| line.is(LineKind::Gaseous, self.unit) && triggers(line, self.year))
-            .map(|line| line.added.mw)
-            .sum()
-    }
-
-    /// The megawatts that the year's filing adds to the unit, and that trigger nothing.
-    fn other(self, filing: &Filing) -> u64
-        ensures { result ≡ sum_by (λ l. l.added.mw) (filter (λ l. of_unit self.unit (dated self.year (line_fields l)) && not (triggers_in (dated self.year (line_fields l)))) (lines_of filing.now)) }
-    {
-        filing
-            .lines()
-            .iter()
-            .filter(|line| line.is(LineKind::Gaseous, self.unit) && !triggers(line, self.year))
+            .filter(|line| line.is(LineKind::Gaseous, self.unit))
+            .filter(|line| triggers(line, self.year) == triggering)
             .map(|line| line.added.mw)
             .sum()
     }
@@ -70,8 +59,8 @@ impl UnitYear {
         ensures bound { result.triggering + result.other ≤ 6000 }
     {
         Capacity {
-            triggering: self.triggering(filing),
-            other: self.other(filing),
+            triggering: self.added(filing, true),
+            other: self.added(filing, false),
         }
     }
 
