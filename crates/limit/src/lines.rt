@@ -1,9 +1,8 @@
 //! The limit of a filing: its lines taken in their order.
 ghost use Rattle.std.specs.Prelude.{◌≡◌};
 ghost use Rattle.filing.specs.Views.{fields_of};
-ghost use Rattle.enrolment.specs.Views.{enrolled};
 ghost use Rattle.standard.specs.Contribution.{contribution as contribution_of};
-ghost use Rattle.standard.specs.Places.{filings};
+ghost use Rattle.standard.specs.Seen.{by_year};
 ghost use Rattle.limit.specs.Lines.{limit_of, Means};
 ghost use Rattle.limit.specs.Outcome.{told};
 
@@ -19,8 +18,8 @@ const TO_A_TONNE: u64 = 10_000_000;
 
 /// The sum of what the lines contribute, rounded once to whole tonnes, or the fault of the first line that has one.
 pub fn limit_of(calculation: Calculation, at: FacilityYear<'_>, filing: &Filing) -> Outcome
-    ensures value { told result ≡ limit_of (contribution_of calculation (enrolled at.entry.enrolment.now) (filings at.entry.places.now) at.entry.year) (fields_of filing.now).lines }
-    ensures means { Means (contribution_of calculation (enrolled at.entry.enrolment.now) (filings at.entry.places.now) at.entry.year) (fields_of filing.now).lines (told result) }
+    ensures value { told result ≡ limit_of (by_year (contribution_of calculation) at.entry) (fields_of filing.now).lines }
+    ensures means { Means (by_year (contribution_of calculation) at.entry) (fields_of filing.now).lines (told result) }
 {
     let lines = filing.lines();
     let mut sum = 0;

@@ -1,9 +1,8 @@
 //! What every limit method is.
 ghost use Rattle.std.specs.Prelude.{◌≡◌, ℕ, List, Option};
 ghost use Rattle.filing.specs.Filing.{FilingFields};
-ghost use Rattle.enrolment.specs.Views.{enrolled};
 ghost use Rattle.enrolment.specs.declared.fields.EnrolmentFields.{EnrolmentFields};
-ghost use Rattle.standard.specs.Places.{filings};
+ghost use Rattle.standard.specs.Seen.{by_year};
 ghost use Rattle.limit.specs.Laws.{Later, Vacant as VacantLaw, Most};
 ghost use Rattle.limit.specs.Outcome.{Told, told};
 
@@ -17,7 +16,7 @@ pub trait LimitMethod {
 
     /// The outcome of a year.
     fn outcome(&self, at: FacilityYear<'_>) -> Outcome
-        ensures { told result ≡ meaning self.now (enrolled at.entry.enrolment.now) (filings at.entry.places.now) at.entry.year };
+        ensures { told result ≡ by_year (meaning self.now) at.entry };
 
     ghost later: { (m : Self) → Later (meaning m) };
 

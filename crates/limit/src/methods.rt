@@ -1,7 +1,7 @@
 //! The industrial method and the station's.
 ghost use Rattle.std.specs.Prelude.{◌≡◌, Some};
-ghost use Rattle.enrolment.specs.Views.{enrolled};
 ghost use Rattle.standard.specs.Places.{filings, standing};
+ghost use Rattle.standard.specs.Seen.{by_year};
 ghost use Rattle.limit.specs.Methods.{of_filing, industrial, station, station_exempt};
 ghost use Rattle.limit.specs.Outcome.{told};
 ghost use Rattle.enrolment.specs.Exempt as SpecsExempt;
@@ -32,7 +32,7 @@ const NEVER_EXEMPT: u16 = 2021;
 /// The outcome of a year, where it is known whether the year is exempt.
 // A flag: whether a year is exempt is the one thing that each method works out for itself.
 fn settled(exempt: bool, calculation: Calculation, at: FacilityYear<'_>) -> Outcome
-    ensures { told result ≡ of_filing exempt calculation (enrolled at.entry.enrolment.now) (filings at.entry.places.now) at.entry.year (standing (filings at.entry.places.now) at.entry.year) }
+    ensures { told result ≡ by_year (of_filing exempt calculation) at.entry (standing (filings at.entry.places.now) at.entry.year) }
 {
     let Some(filing) = at.filing() else {
         return Outcome::NoLimit(NoLimit::Vacant);

@@ -1,9 +1,8 @@
 //! The calculated standard of an activity, from its reference years.
 ghost use Rattle.std.specs.Prelude.{◌≡◌, ◌*◌, ◌<◌, ◌≤◌};
 ghost use Rattle.quantity.specs.Figures.{three_figures};
-ghost use Rattle.enrolment.specs.Views.{enrolled};
 ghost use Rattle.standard.specs.Calculated.{not_large, calculated};
-ghost use Rattle.standard.specs.Seen.{seen};
+ghost use Rattle.standard.specs.Seen.{as_seen};
 ghost use Rattle.standard.specs.Views.{standard_number};
 
 use crate::causes::Cause;
@@ -37,7 +36,7 @@ fn standard_from(kg: u64, thousandths: u64, factor: u8) -> Result<Standard, Caus
 impl FacilityYear<'_> {
     /// The calculated standard of an activity, as the year sees it.
     pub fn calculated_standard(self, activity: u16) -> Result<Standard, Cause>
-        ensures { standard_number result ≡ calculated (enrolled self.entry.enrolment.now) (seen self.entry) activity }
+        ensures { standard_number result ≡ as_seen calculated self.entry activity }
     {
         let years = self.reference_years(activity).ok_or(Cause::Reference)?;
         let (kg, thousandths) = match years {

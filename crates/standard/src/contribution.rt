@@ -1,9 +1,8 @@
 //! What a line contributes to a year's limit.
 ghost use Rattle.std.specs.Prelude.{◌≡◌, ◌*◌};
-ghost use Rattle.enrolment.specs.Views.{enrolled};
 ghost use Rattle.filing.specs.Parts.{line_fields};
 ghost use Rattle.standard.specs.Contribution.{contribution as contribution_of};
-ghost use Rattle.standard.specs.Places.{filings};
+ghost use Rattle.standard.specs.Seen.{by_year};
 ghost use Rattle.standard.specs.Views.{contributed};
 
 use crate::calculation::Calculation;
@@ -27,7 +26,7 @@ fn at_standard(production: Production, standard: Standard) -> Contribution
 impl FacilityYear<'_> {
     /// What a line contributes to the limit of the year, from the places of the years up to it.
     pub fn contribution(self, calculation: Calculation, line: &Line) -> Result<Contribution, Cause>
-        ensures { contributed result ≡ contribution_of calculation (enrolled self.entry.enrolment.now) (filings self.entry.places.now) self.entry.year (line_fields line.now) }
+        ensures { contributed result ≡ by_year (contribution_of calculation) self.entry (line_fields line.now) }
     {
         let production = line.production.rounded();
         match line.kind {

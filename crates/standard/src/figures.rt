@@ -25,6 +25,9 @@ impl Activity<'_> {
             .any(|line| line.is(LineKind::Calculated, self.number))
     }
 
+    // The next two are chains that read alike. One function over the test and the number as closures was tried: its
+    // clauses on what these return are longer than a chain, and that the sum fits was not found from them.
+
     /// The kilograms attributed to the lines that are not of the activity.
     fn other_kg(self, filing: &Filing) -> u64
         ensures { result ≡ sum_by (λ l. l.attributed.kg) (filter (λ l. not (of_activity self.entry.number (line_fields l))) (lines_of filing.now)) }

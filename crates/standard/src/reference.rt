@@ -1,8 +1,7 @@
 //! The reference years of an activity, by the facility's choice.
 ghost use Rattle.std.specs.Prelude.{◌≡◌, ◌≤◌, Some, [], ◌∷◌, map, filter};
-ghost use Rattle.enrolment.specs.Views.{enrolled};
 ghost use Rattle.standard.specs.Reference.{qualifies, figures_at, before_base, reference_years, references};
-ghost use Rattle.standard.specs.Seen.{seen};
+ghost use Rattle.standard.specs.Seen.{seen, as_seen, by_activity};
 ghost use Rattle.standard.specs.Views.{listed, year_figures};
 
 use crate::activity::Activity;
@@ -43,7 +42,7 @@ impl Activity<'_> {
 
     /// The years of the facility's choice.
     fn chosen_years(self) -> Option<ReferenceYears>
-        ensures { listed result ≡ map (figures_at (seen self.entry.at) self.entry.number) (reference_years (enrolled self.entry.at.enrolment.now) (seen self.entry.at) self.entry.number) }
+        ensures { listed result ≡ map (figures_at (seen self.entry.at) self.entry.number) (by_activity reference_years self.entry) }
     {
         match self.at.enrolment.choice {
             Choice::Fixed => self.fixed_years(),
@@ -56,7 +55,7 @@ impl Activity<'_> {
 impl FacilityYear<'_> {
     /// The reference years of an activity, as the year sees them: no later filing counts.
     pub fn reference_years(self, activity: u16) -> Option<ReferenceYears>
-        ensures { listed result ≡ references (enrolled self.entry.enrolment.now) (seen self.entry) activity }
+        ensures { listed result ≡ as_seen references self.entry activity }
     {
         self.activity(activity).chosen_years()
     }
