@@ -9,6 +9,7 @@ use Rattle.filing.specs.declared.signed.Signed.{Signed}
 use Rattle.standard.specs.Adding.{Adds}
 use Rattle.standard.specs.Capacity.{Dated, dated, dated_from, of_unit, triggers, megawatts}
 use Rattle.standard.specs.Places.{filings}
+use Rattle.standard.specs.Ranges.{most_added}
 use Rattle.standard.specs.Seen.{lines_of}
 use Rattle.standard.proofs.Filed.{few_lines}
 use Rattle.standard.proofs.Lines.{few_small, sum_by-filter-map}
@@ -51,8 +52,8 @@ module _ (unit y : ℕ) (f : Filing) where
   pub adds_lines : (t u : ℕ) → t ≡ kept_part triggers → u ≡ kept_part rest → Adds unit (map (dated y) (fields_of f).lines) t u
   adds_lines t u a b = record { triggering = a ∙ lines_part triggers; other = b ∙ lines_part rest }
 
-  -- six lines add at most six thousand megawatts
-  pub lines_small : (t u : ℕ) → Adds unit (map (dated y) (fields_of f).lines) t u → t + u ≤ 6000
+  -- the lines of a filing add at most so many megawatts
+  pub lines_small : (t u : ℕ) → Adds unit (map (dated y) (fields_of f).lines) t u → t + u ≤ most_added
   lines_small t u a =
       let own = sum_by-filter-map megawatts (of_unit unit) (dated y) (fields_of f).lines in
       let kept = sum_by-filter-map (λ m. m.added) (λ m. of_unit unit (dated y m)) line_fields (lines_of f) in

@@ -13,6 +13,7 @@ use Rattle.filing.specs.declared.kinds.LineKind.{LineKind}
 use Rattle.filing.specs.declared.kinds.LineKind.TheVariants.{Calculated}
 use Rattle.filing.specs.declared.parts.Line.{Line}
 use Rattle.filing.specs.Views.{fields_of}
+use Rattle.standard.specs.Ranges.{most_produced}
 use Rattle.standard.specs.Seen.{lines_of}
 use Rattle.standard.specs.Reference.{of_activity, has_activity, made_by}
 use Rattle.std.specs.List.{list_any}
@@ -53,5 +54,5 @@ module _ (activity : ℕ) (f : Filing) where
   pub emitted : sum_by (λ (l : Line). l.attributed.kg) (filter (λ l. not (of_activity activity (line_fields l))) (lines_of f)) ≡ sum_by (λ m. m.attributed) (filter (λ m. not (of_activity activity m)) (fields_of f).lines)
   emitted = sym (sum_by-filter-map (λ m. m.attributed) (λ m. not (of_activity activity m)) line_fields (lines_of f))
 
-  pub made_small : made_by activity (fields_of f) ≤ 600000000000
+  pub made_small : made_by activity (fields_of f) ≤ most_produced
   made_small = omega (arith, made, few_small (λ (l : Line). l.production.thousandths) (λ l. of_activity activity (line_fields l)) 100000000000 (lines_of f) (λ l. l.production.range) (few_lines f))

@@ -1,3 +1,4 @@
+pub mod Ranges
 pub mod Places
 pub mod Causes
 pub mod Decreasing

@@ -1,6 +1,7 @@
 //! The calculated standard of an activity, from its reference years.
 ghost use Rattle.std.specs.Prelude.{◌≡◌, ◌*◌, ◌<◌, ◌≤◌};
 ghost use Rattle.quantity.specs.Figures.{three_figures};
+ghost use Rattle.quantity.specs.Ranges.{most_kilograms};
 ghost use Rattle.standard.specs.Calculated.{not_large, calculated};
 ghost use Rattle.standard.specs.Seen.{as_seen};
 ghost use Rattle.standard.specs.Views.{standard_number};
@@ -16,7 +17,7 @@ const SCALE: u64 = 100;
 
 /// The standard of kilograms by thousandths of production, at a factor in per cent.
 fn standard_from(kg: u64, thousandths: u64, factor: u8) -> Result<Standard, Cause>
-    requires kilograms { kg ≤ 400000000000 }
+    requires kilograms { kg ≤ 2 * most_kilograms }
     requires produced { 0 < thousandths }
     requires percent { factor ≤ 100 }
     ensures { standard_number result ≡ not_large (three_figures (kg * factor * 100) thousandths) }

@@ -5,6 +5,7 @@ ghost use Rattle.filing.specs.Views.{fields_of};
 ghost use Rattle.standard.specs.Adding.{Adds, triggers_is};
 ghost use Rattle.standard.specs.Capacity.{dated, lines_at, of_unit, triggers as triggers_in, megawatts, additions, triggering_megawatts, other_megawatts};
 ghost use Rattle.standard.specs.Places.{filing_at};
+ghost use Rattle.standard.specs.Ranges.{most_added};
 ghost use Rattle.standard.specs.Seen.{lines_of, seen};
 
 use crate::facility::FacilityYear;
@@ -56,7 +57,7 @@ impl UnitYear {
     /// What the year's filing adds to the unit.
     fn added_by(self, filing: &Filing) -> Capacity
         ensures adds { Adds self.unit (map (dated self.year) (fields_of filing.now).lines) result.triggering result.other }
-        ensures bound { result.triggering + result.other ≤ 6000 }
+        ensures bound { result.triggering + result.other ≤ most_added }
     {
         Capacity {
             triggering: self.added(filing, true),
@@ -67,7 +68,7 @@ impl UnitYear {
     /// What the year's place adds to the unit.
     fn added_at(self, place: &Option<Signed>) -> Capacity
         ensures adds { Adds self.unit (map (dated self.year) (lines_at (filing_at place.now))) result.triggering result.other }
-        ensures bound { result.triggering + result.other ≤ 6000 }
+        ensures bound { result.triggering + result.other ≤ most_added }
     {
         place
             .as_ref()

@@ -2,6 +2,7 @@
 ghost use Rattle.std.specs.Prelude.{◌≡◌, ◌+◌, ◌*◌, ◌<◌, ◌≤◌};
 ghost use Rattle.quantity.specs.Rounding.{nearest};
 ghost use Rattle.standard.specs.Contribution.{weighed, unit_yield};
+ghost use Rattle.standard.specs.Ranges.{most_capacity};
 ghost use Rattle.standard.specs.Views.{contributed};
 
 use crate::causes::Cause;
@@ -25,7 +26,7 @@ fn weight_in(year: u64, capacity: Capacity) -> u64
 /// `num / den` thousandths of a tonne as ten-millionths, a half up.
 fn in_ten_millionths(num: u64, den: u64) -> u64
     requires positive { 0 < den }
-    requires few { den ≤ 120000 }
+    requires few { den ≤ most_capacity }
     requires small { num ≤ 37000000000000 * den }
     ensures value { result ≡ nearest (num * 10000) den }
     ensures bound { result ≤ 370000000000000000 }

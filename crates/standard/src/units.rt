@@ -1,11 +1,13 @@
 //! Figures on the way to a limit. Nothing cited here names these types, so that definitions above may.
 ghost use Rattle.std.specs.Prelude.{◌+◌, ◌<◌, ◌≤◌};
+ghost use Rattle.quantity.specs.Ranges.{most_kilograms};
+ghost use Rattle.standard.specs.Ranges.{most_contributed, most_capacity, most_produced};
 
 /// What a line contributes, in ten-millionths of a tonne.
 #[derive(Clone, Copy)]
 pub struct Contribution {
     pub ten_millionths: u64,
-    ghost range: { ten_millionths ≤ 1000000000000000000 },
+    ghost range: { ten_millionths ≤ most_contributed },
 }
 
 /// A unit's capacity in megawatts: what triggers the decreasing standard, and the rest.
@@ -13,7 +15,7 @@ pub struct Contribution {
 pub struct Capacity {
     pub triggering: u64,
     pub other: u64,
-    ghost range: { triggering + other ≤ 120000 },
+    ghost range: { triggering + other ≤ most_capacity },
 }
 
 impl Capacity {
@@ -30,8 +32,8 @@ pub struct ReferenceYear {
     pub year: u64,
     pub kg: u64,
     pub thousandths: u64,
-    ghost emitted: { kg ≤ 200000000000 },
-    ghost made: { (0 < thousandths) × (thousandths ≤ 600000000000) },
+    ghost emitted: { kg ≤ most_kilograms },
+    ghost made: { (0 < thousandths) × (thousandths ≤ most_produced) },
 }
 
 /// The reference years of an activity, in order.
