@@ -13,6 +13,7 @@ use Rattle.filing.specs.declared.fields.LineFields.{LineFields}
 use Rattle.enrolment.specs.declared.fields.EnrolmentFields.{EnrolmentFields}
 use Rattle.standard.specs.Contribution.{contribution}
 use Rattle.standard.specs.Places.{Places, standing}
+use Rattle.standard.specs.Ranges.{most_contributed}
 use Rattle.standard.specs.declared.calculation.Calculation.{Calculation}
 use Rattle.standard.specs.declared.causes.Cause.{Cause}
 use Rattle.standard.proofs.Small.{Below, contribution_small}
@@ -29,34 +30,34 @@ abbrev Sum : ℕ → Result ℕ Fault → Type 0
 Sum most (Ok n) = n ≤ most
 Sum most (Err e) = Unit {0}
 
-both_small : (i most : ℕ) (a : Result ℕ Cause) (b : Result ℕ Fault) → Below 1000000000000000000 a → Sum most b → Sum (1000000000000000000 + most) (both i a b)
+both_small : (i most : ℕ) (a : Result ℕ Cause) (b : Result ℕ Fault) → Below most_contributed a → Sum most b → Sum (most_contributed + most) (both i a b)
 both_small i most (Ok a) (Ok b) p q = add-le-add p q
 both_small i most (Ok a) (Err e) p q = tt
 both_small i most (Err c) b p q = tt
 
 module _ (yield : LineFields → Result ℕ Cause) where
-  summed_small : (i : ℕ) (ls : List LineFields) → AllByRecursion (λ l. Below 1000000000000000000 (yield l)) ls → Sum (length ls * 1000000000000000000) (summed yield i ls)
+  summed_small : (i : ℕ) (ls : List LineFields) → AllByRecursion (λ l. Below most_contributed (yield l)) ls → Sum (length ls * most_contributed) (summed yield i ls)
   summed_small i [] h = zero-le
   summed_small i (l ∷ ls) h =
-      let one_more : 1000000000000000000 + length ls * 1000000000000000000 ≡ suc (length ls) * 1000000000000000000 =
-      add_comm 1000000000000000000 (length ls * 1000000000000000000) ∙ sym (suc-mul (length ls) 1000000000000000000)
+      let one_more : most_contributed + length ls * most_contributed ≡ suc (length ls) * most_contributed =
+      add_comm most_contributed (length ls * most_contributed) ∙ sym (suc-mul (length ls) most_contributed)
       in
       subst (λ most. Sum most (summed yield i (l ∷ ls))) one_more
-      (both_small i (length ls * 1000000000000000000) (yield l) (summed yield (suc i) ls) h.0 (summed_small (suc i) ls h.1))
+      (both_small i (length ls * most_contributed) (yield l) (summed yield (suc i) ls) h.0 (summed_small (suc i) ls h.1))
 
-  tonnes_small : (r : Result ℕ Fault) (n : ℕ) → n ≤ 6 → Sum (n * 1000000000000000000) r → AtMost (in_tonnes r)
+  tonnes_small : (r : Result ℕ Fault) (n : ℕ) → n ≤ 6 → Sum (n * most_contributed) r → AtMost (in_tonnes r)
   tonnes_small (Ok s) n few h =
-      let six : n * 1000000000000000000 ≤ 6 * 1000000000000000000 = mul-le-mul_right 1000000000000000000 few in
-      let top : 6 * 1000000000000000000 ≤ most_tonnes * 10000000 = lit≤ tt in
+      let six : n * most_contributed ≤ 6 * most_contributed = mul-le-mul_right most_contributed few in
+      let top : 6 * most_contributed ≤ most_tonnes * 10000000 = lit≤ tt in
       nearest_within s 10000000 (nearest s 10000000) most_tonnes (lit< tt) (le_trans h (le_trans six top)) (nearest_near s 10000000 (lit< tt))
   tonnes_small (Err e) n few h = tt
 
-  limit_small : (ls : List LineFields) → length ls ≤ 6 → AllByRecursion (λ l. Below 1000000000000000000 (yield l)) ls → AtMost (limit_of yield ls)
+  limit_small : (ls : List LineFields) → length ls ≤ 6 → AllByRecursion (λ l. Below most_contributed (yield l)) ls → AtMost (limit_of yield ls)
   unfolding limit_of
   limit_small ls few h = tonnes_small (summed yield 1 ls) (length ls) few (summed_small 1 ls h)
 
 lines_small : (by : Calculation) (e : EnrolmentFields) (ps : Places) (y : ℕ) (f : FilingFields) → Sound f → AtMost (limit_of (contribution by e ps y) f.lines)
-lines_small by e ps y f s = limit_small (contribution by e ps y) f.lines s.few (All-from_get_or (λ l. Below 1000000000000000000 (contribution by e ps y l)) f.lines no_line (λ i h. contribution_small by e ps y (slice_index_or f.lines i no_line) (s.lines i no_line h)))
+lines_small by e ps y f s = limit_small (contribution by e ps y) f.lines s.few (All-from_get_or (λ l. Below most_contributed (contribution by e ps y l)) f.lines no_line (λ i h. contribution_small by e ps y (slice_index_or f.lines i no_line) (s.lines i no_line h)))
 
 chosen_small : (b c : Bool) (t : Told) → AtMost t → AtMost (cond b (no_limit 41) (cond c (no_limit 42) t))
 chosen_small true c t h = tt

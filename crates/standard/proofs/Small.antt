@@ -18,6 +18,7 @@ use Rattle.standard.specs.Capacity.{triggering_megawatts, other_megawatts}
 use Rattle.standard.specs.Contribution.{at_standard, weighed, calculated_by, of_kind, contribution}
 use Rattle.standard.specs.Decreasing.{decreasing, decreasing_from2021}
 use Rattle.standard.specs.Places.{Places, up_to}
+use Rattle.standard.specs.Ranges.{most_contributed}
 use Rattle.standard.specs.Reference.{YearFigures, references}
 use Rattle.standard.specs.declared.calculation.Calculation.{Calculation}
 use Rattle.standard.specs.declared.calculation.Calculation.TheVariants.{FromYears, Barred}
@@ -45,7 +46,7 @@ calculated_small : (by : Calculation) (e : EnrolmentFields) (past : Places) (act
 calculated_small FromYears e past activity = standard_small e.factor (references e past activity)
 calculated_small Barred e past activity = tt
 
-at_standard_small : (p : ℕ) (s : Result ℕ Cause) → p ≤ 100000000000 → Below 10000000 s → Below 1000000000000000000 (at_standard p s)
+at_standard_small : (p : ℕ) (s : Result ℕ Cause) → p ≤ 100000000000 → Below 10000000 s → Below most_contributed (at_standard p s)
 at_standard_small p (Ok s) a b = product_small p s a b
 at_standard_small p (Err c) a b = tt
 
@@ -62,7 +63,7 @@ weighed_small t u y =
     let one : t * decreasing y ≤ t * 370 = mul-le-mul_left t (decreasing_small y) in
     omega arith
 
-unit_small : (p t u y : ℕ) (b c : Bool) → (t + u == 0) ≡ b → p ≤ 100000000000 → Below 1000000000000000000 (cond b (cond c (Ok 0) (Err cause.Capacity)) (Ok (nearest (p * weighed t u y * 10000) (t + u))))
+unit_small : (p t u y : ℕ) (b c : Bool) → (t + u == 0) ≡ b → p ≤ 100000000000 → Below most_contributed (cond b (cond c (Ok 0) (Err cause.Capacity)) (Ok (nearest (p * weighed t u y * 10000) (t + u))))
 unit_small p t u y true true e h = omega arith
 unit_small p t u y true false e h = tt
 unit_small p t u y false c e h =
@@ -70,7 +71,7 @@ unit_small p t u y false c e h =
     let small = yield_small (p * weighed t u y) (t + u) (nearest (p * weighed t u y * 10000) (t + u)) pos (product_weighed p (weighed t u y) (t + u) h (weighed_small t u y)) refl in
     omega arith
 
-kind_small : (k : LineKind) (by : Calculation) (e : EnrolmentFields) (past : Places) (y : ℕ) (l : LineFields) → InRange (line_numbers l) (line_ranges k) → Below 1000000000000000000 (of_kind (Some k) by e past y l)
+kind_small : (k : LineKind) (by : Calculation) (e : EnrolmentFields) (past : Places) (y : ℕ) (l : LineFields) → InRange (line_numbers l) (line_ranges k) → Below most_contributed (of_kind (Some k) by e past y l)
 kind_small Numerical by e past y l r = product_small (three_figures l.production 1) l.standard (rounded_small l.production r.2.1) r.2.2.1
 kind_small Calculated by e past y l r = at_standard_small (three_figures l.production 1) (calculated_by by e past l.number) (rounded_small l.production r.2.1) (calculated_small by e past l.number)
 kind_small Gaseous by e past y l r =
@@ -80,6 +81,6 @@ kind_small Gaseous by e past y l r =
     let u : ℕ = other_megawatts l.number past in
     unit_small p t u y (t + u == 0) (p == 0) refl (rounded_small l.production (omega arith))
 
-pub contribution_small : (by : Calculation) (e : EnrolmentFields) (ps : Places) (y : ℕ) (l : LineFields) → LineInRange l → Below 1000000000000000000 (contribution by e ps y l)
+pub contribution_small : (by : Calculation) (e : EnrolmentFields) (ps : Places) (y : ℕ) (l : LineFields) → LineInRange l → Below most_contributed (contribution by e ps y l)
 unfolding contribution
-contribution_small by e ps y l r = subst (λ k. Below 1000000000000000000 (of_kind k by e (up_to y ps) y l)) (sym r.is) (kind_small r.kind by e (up_to y ps) y l r.fields)
+contribution_small by e ps y l r = subst (λ k. Below most_contributed (of_kind k by e (up_to y ps) y l)) (sym r.is) (kind_small r.kind by e (up_to y ps) y l r.fields)

@@ -2,8 +2,9 @@
 use Rattle.std.proofs.Common.{◌≡◌, ℕ, ◌+◌, ◌*◌, ◌/◌, ◌%◌, ◌<◌, ◌≤◌, sym, ap, ◌∙◌, subst, add-mul, mul-le-mul, div-add-mod', mul_right_comm, arith}
 use Rattle.quantity.specs.Rounding.{nearest, Nearest}
 use Rattle.quantity.proofs.Nearest.{nearest_near, nearest_within, nearest_only}
+use Rattle.standard.specs.Ranges.{most_contributed}
 
-pub product_small : (p s : ℕ) → p ≤ 100000000000 → s ≤ 10000000 → p * s ≤ 1000000000000000000
+pub product_small : (p s : ℕ) → p ≤ 100000000000 → s ≤ 10000000 → p * s ≤ most_contributed
 product_small p s made standard =
     let all : p * s ≤ 100000000000 * 10000000 = mul-le-mul made standard in
     omega arith
