@@ -30,7 +30,7 @@ const FIRST_LIMIT: u64 = 2019;
 const NEVER_EXEMPT: u16 = 2021;
 
 /// The outcome of a year, where it is known whether the year is exempt.
-// A flag: whether a year is exempt is the one thing that each method works out for itself.
+// The methods differ in these two alone: a flag, which each works out for itself, and its `Calculation`, which is fixed.
 fn settled(exempt: bool, calculation: Calculation, at: FacilityYear<'_>) -> Outcome
     ensures { told result ≡ by_year (of_filing exempt calculation) at.entry (standing (filings at.entry.places.now) at.entry.year) }
 {

@@ -6,6 +6,7 @@ use standard::causes::Cause;
 #[derive(Clone, Copy, Debug, PartialEq, Eq)]
 pub enum NoLimit {
     /// Nothing stands at the year, or it has no place.
+    // The number that the register refuses such a place by: its enum of refusals is of a crate above.
     Vacant = 15,
     /// Limits begin with 2019.
     Early = 41,

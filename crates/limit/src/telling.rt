@@ -10,7 +10,7 @@ impl NoLimit {
     pub fn number(&self) -> u64
         ensures { result ≡ no_limit_number self.now }
     {
-        // A method and no `From`, as for the faults that have values: all are asked in one way.
+        // A method of its own, as each fault has: a trait for it would need as many impls with this one line.
         *self as u64
     }
 }

@@ -86,7 +86,8 @@ impl FacilityYear<'_> {
         let past = up_to(self.places, self.year);
         let mut triggering = 0;
         let mut other = 0;
-        // A `for`: the filing of each place is read once, for both sums.
+        // A `for`. A `fold` of a `Capacity` was tried: that the sum so far stays in its range is an invariant here,
+        // and was not found for the calls of a `fold`.
         for (year, place) in (FIRST_YEAR..).zip(past) {
             let added = UnitYear { unit, year }.added_at(place);
             triggering += added.triggering;

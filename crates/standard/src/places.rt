@@ -18,8 +18,9 @@ pub fn at_year<T>(places: &[Option<T>; YEARS], year: u64) -> Option<&T>
     places.get(i as usize)?.as_ref()
 }
 
-/// The places of the years up to and with a year. No method of `FacilityYear`: that an array has its
-/// twenty places is known of a parameter, and not of a field.
+/// The places of the years up to and with a year.
+// No method of `FacilityYear`: that the array has its twenty places is known of a parameter. Of a field it is not, and
+// a ghost field that says it would be asked of each caller that makes a `FacilityYear`.
 pub(crate) fn up_to(places: &[Option<Signed>; YEARS], year: u64) -> &[Option<Signed>]
     ensures value { filings result.now ≡ up_to year (filings places.now) }
     ensures few { length result.now ≤ 20 }
