@@ -1,5 +1,5 @@
 -- What the lines of a sound filing come to for an activity.
-use Rattle.std.proofs.Common.{◌≡◌, ℕ, ◌<◌, ◌≤◌, true, not, ltb, List, length, map, filter, sum_by, Some, sym, ap, ◌∙◌, subst, arith}
+use Rattle.std.proofs.Common.{◌≡◌, ℕ, ◌<◌, ◌≤◌, Bool, true, not, ltb, List, length, map, filter, sum_by, Some, sym, ap, ◌∙◌, subst, arith}
 use Rattle.std.proofs.lemmas.List.{length-map, length-take}
 use Rattle.std.proofs.lemmas.Bool.{eqb-true, and_parts, ltb-true}
 use Rattle.filing.specs.Filing.{FilingFields}
@@ -47,6 +47,10 @@ module _ (activity : ℕ) (f : Filing) where
   -- whether a line is of the activity, and what the lines have of it, of the lines as they are kept
   pub among : list_any (λ l. of_activity activity (line_fields l)) (lines_of f) ≡ has_activity activity (Some (fields_of f))
   among = sym (list_any-map (of_activity activity) line_fields (lines_of f))
+
+  -- whether one was found is whether the filing has the activity
+  pub has_as : (found b : Bool) → found ≡ list_any (λ l. of_activity activity (line_fields l)) (lines_of f) → found ≡ b → has_activity activity (Some (fields_of f)) ≡ b
+  has_as found b is e = sym among ∙ sym is ∙ e
 
   pub made : sum_by (λ (l : Line). l.production.thousandths) (filter (λ l. of_activity activity (line_fields l)) (lines_of f)) ≡ made_by activity (fields_of f)
   made = sym (sum_by-filter-map (λ m. m.production) (of_activity activity) line_fields (lines_of f))

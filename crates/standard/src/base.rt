@@ -28,6 +28,7 @@ impl Activity<'_> {
     }
 
     /// What the base year has of the activity.
+    #[tactic(auto, using(crate::proofs::BaseMeaning::has_base))]
     pub(crate) fn base(self) -> Option<ReferenceYear>
         ensures { by_activity Based self.entry result }
     {
@@ -37,6 +38,7 @@ impl Activity<'_> {
 
 impl FacilityYear<'_> {
     /// The base year of an activity, as the year sees it: from 2019 on, the earliest that is not exempt and has a line of the activity.
+    #[tactic(auto, using(crate::proofs::BaseMeaning::base_is))]
     pub fn base_year(self, activity: u16) -> Option<u64>
         ensures value { result ≡ as_seen base_year self.entry activity }
         ensures means { as_seen BaseOf self.entry activity result }

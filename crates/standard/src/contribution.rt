@@ -25,6 +25,7 @@ fn at_standard(production: Production, standard: Standard) -> Contribution
 
 impl FacilityYear<'_> {
     /// What a line contributes to the limit of the year, from the places of the years up to it.
+    #[tactic(auto, unfolding(crate::specs::Contribution::contribution))]
     pub fn contribution(self, calculation: Calculation, line: &Line) -> Result<Contribution, Cause>
         ensures { contributed result ≡ by_year (contribution_of calculation) self.entry (line_fields line.now) }
     {

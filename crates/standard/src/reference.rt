@@ -41,6 +41,7 @@ impl Activity<'_> {
     }
 
     /// The years of the facility's choice.
+    #[tactic(auto, using(crate::proofs::BaseMeaning::base_from))]
     fn chosen_years(self) -> Option<ReferenceYears>
         ensures { listed result ≡ map (figures_at (seen self.entry.at) self.entry.number) (by_activity reference_years self.entry) }
     {
@@ -54,6 +55,7 @@ impl Activity<'_> {
 
 impl FacilityYear<'_> {
     /// The reference years of an activity, as the year sees them: no later filing counts.
+    #[tactic(auto, unfolding(crate::specs::Reference::references))]
     pub fn reference_years(self, activity: u16) -> Option<ReferenceYears>
         ensures { listed result ≡ as_seen references self.entry activity }
     {
