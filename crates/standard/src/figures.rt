@@ -53,6 +53,7 @@ impl Activity<'_> {
     }
 
     /// What the filing of a year has of the activity, or nothing where no line is of it.
+    #[tactic(auto, using(crate::proofs::Filed::has_as))]
     fn filed(self, signed: &Signed, year: u64) -> Option<ReferenceYear>
         ensures { YearOf self.entry.number year (Some (filed signed.now)) result }
     {

@@ -4,9 +4,6 @@ use Rattle.standard.specs.Reference.{made_by, emitted_by}
 use Rattle.standard.proofs.Filed.{has_as, made, emitted, made_small, made_above}
 use Rattle.standard.proofs.activity.Activity.filed.Goals as goal
 
-pub returns-then-not-is_in : goal.returns-then-not-is_in
-returns-then-not-is_in c = rw (← c.filing-filing.ensures.is) (has_as c.args.self.number c.filing-filing.result.now _ _ c.is_in.ensures c.if-not-is_in.true)
-
 pub invariant_of-result : goal.invariant_of-result
 invariant_of-result c =
     let f = c.filing-filing.result.now in
