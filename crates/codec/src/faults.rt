@@ -42,6 +42,7 @@ impl ReadFault {
     pub fn number(&self) -> u64
         ensures { result ≡ (read_told self.now).number }
     {
+        // Written out: an enum with a case that holds values can't be cast to its number.
         match self {
             ReadFault::Cut { .. } => 1,
             ReadFault::Mark => 2,

@@ -20,6 +20,7 @@ pub(crate) trait Coded {
     ghost field: { Self → ℕ → ℕ };
 
     /// The field with a code, and 0 where there is none.
+    // By number, as the schema has codes; 0, and no `Option`, as that is what the format says of a field that lacks.
     fn value(&self, code: u8) -> u64
         ensures { result ≡ field self.now code };
 }
@@ -48,7 +49,6 @@ impl Values<'_> {
 impl Coded for HeadFields {
     ghost field = { head_field };
 
-    // By number, as the schema has codes; 0 for a code that has no field here, which is what the format says of it.
     fn value(&self, code: u8) -> u64 {
         match code {
             1 => self.facility,

@@ -103,6 +103,8 @@ pub(crate) fn samples() -> [Sample; 3] {
     ]
 }
 
+// The codes stand here once more, as samples are made with no help of the codec.
+
 /// The field of a head that a code names.
 fn head_value(head: &HeadFields, code: u8) -> Option<u64> {
     match code {
