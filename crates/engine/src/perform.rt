@@ -45,7 +45,7 @@ pub fn run(
 {
     let mut answers = Vec::with_capacity(heap, steps.len())?;
     let mut engine = Engine::new(heap)?;
-    // No chain: its closure would change the engine, and a chain says nothing of what its closure changes.
+    // No chain: its closure would change the engine, and need an invariant on what it captures: longer than this loop.
     // Nor a trait over this loop and the register's: with its ghost members and two impls it is longer than both.
     for step in steps {
         answers.push_reserved(engine.perform(*step));

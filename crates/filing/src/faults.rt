@@ -9,6 +9,7 @@ use std::fmt;
 pub enum FilingFault {
     /// A field is outside its range: its code, and the line, or 0 for the head.
     // Not an `Option`: a refusal tells and prints `line 0` for the head, so `None` would become 0 again there.
+    // The code is the format's own number of a field, and is printed as it is.
     Range { code: usize, line: usize },
     /// A line's kind is not 1 to 3.
     Kind { line: usize },
@@ -25,6 +26,7 @@ impl FilingFault {
     pub fn number(&self) -> u64
         ensures { result ≡ (told self.now).number }
     {
+        // Written out: an enum with a case that holds values can't be cast to its number.
         match self {
             FilingFault::Range { .. } => 5,
             FilingFault::Kind { .. } => 6,

@@ -12,7 +12,7 @@ use crate::parts::{Head, Line};
 pub const MOST_LINES: usize = 6;
 
 /// A head and the first `count` of its lines.
-// Not an `ArrayVec`, which is not `Copy`: a register holds signed filings by value, and a draft takes no memory that can run out.
+// Not an `ArrayVec`, which is not `Copy`, and a register holds signed filings by value; nor a `Vec`: a draft takes no memory that can run out.
 #[derive(Clone, Copy)]
 pub struct Filing {
     pub(crate) head: Head,

@@ -23,7 +23,7 @@ pub fn limit_of(calculation: Calculation, at: FacilityYear<'_>, filing: &Filing)
 {
     let lines = filing.lines();
     let mut sum = 0;
-    // A `for`: it stops at the first fault, and names its line.
+    // A `for`, as the project asks: it stops at the first fault, and names its line.
     for (place, line) in (1usize..).zip(lines) {
         match at.contribution(calculation, line) {
             Ok(part) => sum += part.ten_millionths,

@@ -30,7 +30,7 @@ const FIRST_LIMIT: u64 = 2019;
 const NEVER_EXEMPT: u16 = 2021;
 
 /// The outcome of a year, where it is known whether the year is exempt.
-// The methods differ in these two alone: a flag, which each works out for itself, and its `Calculation`, which is fixed.
+// A flag: the methods differ in it and in their `Calculation` alone. A closure in its place would be called once, and need a contract: no plainer.
 fn settled(exempt: bool, calculation: Calculation, at: FacilityYear<'_>) -> Outcome
     ensures { told result ≡ by_year (of_filing exempt calculation) at.entry (standing (filings at.entry.places.now) at.entry.year) }
 {

@@ -27,6 +27,7 @@ fn unit_of(q: Quotient) -> u64
 }
 
 /// The tie rule of three figures: the whole number nearest to the quotient, a half up.
+// By the project's rule apart from `nearest_whole`: methods notes differ on ties of three figures, and not on those of whole numbers.
 #[tactic(auto, unfolding(crate::specs::Figures::figure))]
 fn figure(q: Quotient) -> u64
     ensures value { result ≡ figure q.num q.den }

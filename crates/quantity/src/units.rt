@@ -50,7 +50,7 @@ pub struct Quotient {
 impl Kilograms {
     pub const MOST: u64 = 200_000_000_000;
 
-    // Five `new` and no generic one: a field's name tells its scale, and a constructor shared by a trait would be public with a `requires`.
+    // Five `new` and no generic one: a field's name tells its scale, and with a trait there would be five impls beside the five.
     /// So many kilograms, unless they pass the most.
     pub fn new(kg: u64) -> Option<Kilograms>
         ensures { Within (λ q. q.kg) most_kilograms kg result }

@@ -16,6 +16,7 @@ use filing::signed::Signed;
 use limit::method::LimitMethod;
 use std::alloc::{AllocError, Global};
 
+// `refused` stands in five calls: it is over two states, so no invariant and no ghost field can hold it.
 impl<M: LimitMethod> Register<M> {
     /// Enrols a facility; an enrolment stays.
     pub fn enrol(&mut self, fields: EnrolmentFields) -> Result<(), Refusal>

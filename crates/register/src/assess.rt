@@ -32,7 +32,7 @@ fn assessment_of(filing: &Filing, outcome: Outcome, number: u64) -> Assessment
 }
 
 /// The assessment of a year, where a filing stands there.
-// The method and the number stay two parameters, from `put` down: a struct of both would need a lifetime, a type
+// The method and the number stay two parameters, here, in `reassess` and in `refill`: a struct of both would need a lifetime, a type
 // parameter and an impl, for a pair that is made in one place.
 fn fresh<M: LimitMethod>(method: &M, at: FacilityYear<'_>, number: u64) -> Option<Assessment>
     ensures { option_map assessment_fields result ≡ anew_of (M.LimitMethod.meaning method.now) (enrolled at.entry.enrolment.now) (filings at.entry.places.now) at.entry.year number (standing (filings at.entry.places.now) at.entry.year) }

@@ -58,6 +58,8 @@ impl<M: LimitMethod> Register<M> {
     }
 
     /// An act on a place that holds `before`: into the undo log, and then into the table.
+    // A place and its content stay two parameters, here, in `put` and in `refill`: a struct of both would be made
+    // at each call only to be taken apart in `refill`.
     pub(crate) fn act(
         &mut self,
         at: EnrolledPlace,

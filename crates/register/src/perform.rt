@@ -41,7 +41,7 @@ pub fn run<M: LimitMethod + Drop>(
 {
     let mut answers = Vec::with_capacity(heap, calls.len())?;
     let mut register = Register::new(heap, method)?;
-    // No chain: its closure would change the register, and a chain says nothing of what its closure changes.
+    // No chain: its closure would change the register, and need an invariant on what it captures: longer than this loop.
     // Nor a trait over this loop and the engine's: with its ghost members and two impls it is longer than both.
     for call in calls {
         answers.push_reserved(register.perform(*call));

@@ -3,6 +3,7 @@ use Rattle.register.specs.Answers.{closed}
 use Rattle.register.proofs.Performed.{performed, look_lives}
 use Rattle.register.proofs.table.Register.perform.Goals as goal
 
+-- One lemma for each call. `using(performed)` was tried in place of these: the search finds none of them.
 pub returns-in-Enrol-clause-laws : goal.returns-in-Enrol-clause-laws
 returns-in-Enrol-clause-laws g c = performed g.M.LimitMethod.meaning c.in-Enrol.is c.enrol.ensures.lives (search rules)
 
