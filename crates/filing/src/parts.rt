@@ -7,7 +7,7 @@ ghost use Rattle.filing.specs.Parts.{head_fields, line_fields, HeadMade, LineMad
 use crate::faults::FilingFault;
 use crate::fields::{HeadFields, LineFields};
 use crate::kinds::LineKind;
-use crate::ranges::{check_ranges, head_ranges, line_ranges};
+use crate::ranges::{check_ranges, head_ranged, line_ranged};
 use quantity::units::{Kilograms, Megawatts, Production, Standard};
 
 /// Who files for which year, and what was emitted and captured.
@@ -76,17 +76,7 @@ impl TryFrom<HeadFields> for Head {
     ghost try_from_gives = { HeadMade };
 
     fn try_from(fields: HeadFields) -> Result<Head, FilingFault> {
-        let [facility, year, co2, ch4, n2o, sf6, captured] = head_ranges(&fields);
-        let ranged = [
-            (fields.facility, facility),
-            (fields.year, year),
-            (fields.co2, co2),
-            (fields.ch4, ch4),
-            (fields.n2o, n2o),
-            (fields.sf6, sf6),
-            (fields.captured, captured),
-        ];
-        check_ranges(1, &ranged, 0)?;
+        check_ranges(1, &head_ranged(&fields), 0)?;
         Ok(Head {
             facility: fields.facility as u8,
             year: fields.year as u16,
@@ -119,16 +109,7 @@ impl Line {
         requires { kind_of fields.kind ≡ Some kind }
         ensures { LineMade kind fields place result }
     {
-        let [number, production, standard, attributed, added, ratio] = line_ranges(kind);
-        let ranged = [
-            (fields.number, number),
-            (fields.production, production),
-            (fields.standard, standard),
-            (fields.attributed, attributed),
-            (fields.added, added),
-            (fields.ratio, ratio),
-        ];
-        check_ranges(22, &ranged, place)?;
+        check_ranges(22, &line_ranged(kind, &fields), place)?;
         Ok(Line {
             kind,
             number: fields.number as u16,

@@ -1,12 +1,12 @@
 //! The ranges of the fields, in the order of their codes.
-ghost use Rattle.std.specs.Prelude.{◌≡◌, ◌+◌, ◌<◌, ◌≤◌, IfSome, IfOk, IfErr, Some, None};
+ghost use Rattle.std.specs.Prelude.{◌≡◌, ◌+◌, ◌<◌, ◌≤◌, map, IfSome, IfOk, IfErr, Some, None};
 ghost use Rattle.std.specs.List.{position};
 ghost use Rattle.filing.specs.Checks.{out_of_range};
-ghost use Rattle.filing.specs.Ranges.{◌to◌, head_ranges, line_ranges, outside, beside_outside};
+ghost use Rattle.filing.specs.Ranges.{◌to◌, head_numbers, head_ranges, line_numbers, line_ranges, outside, beside_outside};
 ghost use Rattle.filing.specs.Told.{told};
 
 use crate::faults::FilingFault;
-use crate::fields::HeadFields;
+use crate::fields::{HeadFields, LineFields};
 use crate::kinds::LineKind;
 use crate::places::{FACILITIES, FIRST_YEAR, LAST_YEAR};
 use quantity::units::{Kilograms, Megawatts, Production, Standard};
@@ -34,9 +34,10 @@ fn up_to(most: u64) -> Range
     Range { least: 0, most }
 }
 
-/// The ranges of a head's fields, codes 1 to 7.
-pub(crate) fn head_ranges(fields: &HeadFields) -> [Range; 7]
-    ensures { result ≡ head_ranges fields.now }
+/// The fields of a head beside their ranges, codes 1 to 7.
+pub(crate) fn head_ranged(fields: &HeadFields) -> [(u64, Range); 7]
+    ensures numbers { map (λ p. p.0) result ≡ head_numbers fields.now }
+    ensures ranges { map (λ p. p.1) result ≡ head_ranges fields.now }
 {
     let facility = Range {
         least: 1,
@@ -47,40 +48,42 @@ pub(crate) fn head_ranges(fields: &HeadFields) -> [Range; 7]
         most: LAST_YEAR,
     };
     [
-        facility,
-        year,
-        up_to(100_000_000_000),
-        up_to(1_000_000_000),
-        up_to(100_000_000),
-        up_to(1_000_000),
-        up_to(fields.co2),
+        (fields.facility, facility),
+        (fields.year, year),
+        (fields.co2, up_to(100_000_000_000)),
+        (fields.ch4, up_to(1_000_000_000)),
+        (fields.n2o, up_to(100_000_000)),
+        (fields.sf6, up_to(1_000_000)),
+        (fields.captured, up_to(fields.co2)),
     ]
 }
 
-/// The ranges of a line's fields after its kind, codes 22 to 27.
-pub(crate) fn line_ranges(kind: LineKind) -> [Range; 6]
-    ensures { result ≡ line_ranges kind }
+/// The fields of a line after its kind beside their ranges, codes 22 to 27.
+pub(crate) fn line_ranged(kind: LineKind, fields: &LineFields) -> [(u64, Range); 6]
+    ensures numbers { map (λ p. p.0) result ≡ line_numbers fields.now }
+    ensures ranges { map (λ p. p.1) result ≡ line_ranges kind }
 {
-    let number = up_to(65_535);
     let made = Range {
         least: 1,
         most: Production::MOST,
     };
-    let attributed = up_to(Kilograms::MOST);
     let absent = up_to(0);
-    match kind {
-        LineKind::Numerical => {
-            let standard = up_to(Standard::MOST);
-            [number, made, standard, attributed, absent, absent]
-        }
-        LineKind::Calculated => [number, made, absent, attributed, absent, absent],
+    let (production, standard, added, ratio) = match kind {
+        LineKind::Numerical => (made, up_to(Standard::MOST), absent, absent),
+        LineKind::Calculated => (made, absent, absent, absent),
         LineKind::Gaseous => {
             let generated = up_to(100_000_000);
-            let added = up_to(Megawatts::MOST);
-            let ratio = up_to(10_000);
-            [number, generated, absent, attributed, added, ratio]
+            (generated, absent, up_to(Megawatts::MOST), up_to(10_000))
         }
-    }
+    };
+    [
+        (fields.number, up_to(65_535)),
+        (fields.production, production),
+        (fields.standard, standard),
+        (fields.attributed, up_to(Kilograms::MOST)),
+        (fields.added, added),
+        (fields.ratio, ratio),
+    ]
 }
 
 /// The place, from 0, of the first value outside its range.
