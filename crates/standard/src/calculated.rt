@@ -26,12 +26,7 @@ fn standard_from(kg: u64, thousandths: u64, factor: u8) -> Result<Standard, Caus
         num: kg * u64::from(factor) * SCALE,
         den: thousandths,
     });
-    if rounded > Standard::MOST {
-        return Err(Cause::Large);
-    }
-    Ok(Standard {
-        ten_thousandths: rounded,
-    })
+    Standard::new(rounded).ok_or(Cause::Large)
 }
 
 impl FacilityYear<'_> {

@@ -1,5 +1,5 @@
 //! What a unit that makes electricity from gaseous fuel yields.
-ghost use Rattle.std.specs.Prelude.{◌≡◌, ◌+◌, ◌*◌, ◌<◌, ◌≤◌};
+ghost use Rattle.std.specs.Prelude.{◌≡◌, ◌+◌, ◌*◌, ◌≤◌};
 ghost use Rattle.quantity.specs.Rounding.{nearest};
 ghost use Rattle.standard.specs.Contribution.{weighed, unit_yield};
 ghost use Rattle.standard.specs.Ranges.{most_capacity};
@@ -23,20 +23,19 @@ fn weight_in(year: u64, capacity: Capacity) -> u64
     capacity.triggering * decreasing + capacity.other * STEADY
 }
 
-/// `num / den` thousandths of a tonne as ten-millionths, a half up.
-fn in_ten_millionths(num: u64, den: u64) -> u64
-    requires positive { 0 < den }
-    requires few { den ≤ most_capacity }
-    requires small { num ≤ 37000000000000 * den }
-    ensures value { result ≡ nearest (num * 10000) den }
+/// Thousandths of a tonne as ten-millionths, a half up.
+fn in_ten_millionths(exact: Quotient) -> u64
+    requires few { exact.den ≤ most_capacity }
+    requires small { exact.num ≤ 37000000000000 * exact.den }
+    ensures value { result ≡ nearest (exact.num * 10000) exact.den }
     ensures bound { result ≤ 370000000000000000 }
 {
-    // In two parts, since `num` times ten thousand may not fit 64 bits. The whole thousandths are
-    // exact, so that only the rest is rounded.
-    let whole = num / den * IN_THOUSANDTH;
+    // In two parts, since `exact.num` times ten thousand may not fit 64 bits. The whole thousandths
+    // are exact, so that only the rest is rounded.
+    let whole = exact.num / exact.den * IN_THOUSANDTH;
     let rest = Quotient {
-        num: num % den * IN_THOUSANDTH,
-        den,
+        num: exact.num % exact.den * IN_THOUSANDTH,
+        den: exact.den,
     };
     whole + nearest_whole(rest)
 }
@@ -57,8 +56,11 @@ pub(crate) fn unit_yield(
         return Err(Cause::Capacity);
     }
     let weight = weight_in(year, capacity);
-    let exact = production.thousandths * weight;
+    let exact = Quotient {
+        num: production.thousandths * weight,
+        den: all,
+    };
     Ok(Contribution {
-        ten_millionths: in_ten_millionths(exact, all),
+        ten_millionths: in_ten_millionths(exact),
     })
 }

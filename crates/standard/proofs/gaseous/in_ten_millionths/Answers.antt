@@ -4,5 +4,5 @@ use Rattle.standard.proofs.gaseous.in_ten_millionths.Goals as goal
 
 pub returns : goal.returns
 returns c =
-    let parts = nearest_parts c.args.num c.args.den 10000 _ (omega arith) c.nearest_whole.ensures.value in
+    let parts = nearest_parts _ _ _ _ (omega arith) c.nearest_whole.ensures.value in
     record { value = parts; bound = yield_small _ _ _ (omega arith) (omega arith) parts }
