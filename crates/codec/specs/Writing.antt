@@ -31,10 +31,14 @@ written f = record_of written_version written_row f
 abbrev pub pasted : List ℕ → ℕ → List ℕ → List ℕ
 pasted old at bs = take at old ++ (bs ++ drop (at + length bs) old)
 
+-- there is room for n bytes more
+abbrev pub Room : Output → ℕ → Type 0
+Room o n = o.at + n ≤ length o.buffer.now
+
 -- bytes put where a buffer is filled to: it is the same buffer, filled to their end, and nothing else in it changes
 pub record Put (old new : Output) (bs : List ℕ) : Type 0 where
   pub same : new.buffer.ghost_name ≡ old.buffer.ghost_name
-  pub room : old.at + length bs ≤ length old.buffer.now
+  pub room : Room old (length bs)
   pub long : length new.buffer.now ≡ length old.buffer.now
   pub wrote : new.buffer.now ≡ pasted old.buffer.now old.at bs
   pub ends : new.at ≡ old.at + length bs

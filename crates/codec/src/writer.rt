@@ -1,10 +1,10 @@
 //! Writes the record of a filing.
-ghost use Rattle.std.specs.Prelude.{◌≡◌, ℕ, ◌+◌, ◌*◌, ◌≤◌, map, length};
+ghost use Rattle.std.specs.Prelude.{◌≡◌, ℕ, ◌+◌, ◌*◌, map, length};
 ghost use Rattle.std.specs.List.{flat_map};
 ghost use Rattle.filing.specs.Parts.{line_fields};
 ghost use Rattle.filing.specs.Views.{filed};
 ghost use Rattle.codec.specs.Laws.{ReadsBack};
-ghost use Rattle.codec.specs.Writing.{field_bytes, line_bytes, opening_bytes, written as written_of, Put, Written};
+ghost use Rattle.codec.specs.Writing.{field_bytes, line_bytes, opening_bytes, written as written_of, Room, Put, Written};
 
 use crate::faults::WriteFault;
 use crate::fields::Coded;
@@ -29,7 +29,7 @@ struct Output<'a> {
 impl Output<'_> {
     /// Puts bytes.
     fn put(&mut self, bytes: &[u8])
-        requires { self.old.at + length bytes.now ≤ length self.old.buffer.now }
+        requires { Room self.old (length bytes.now) }
         ensures { Put self.old self.new bytes.now }
     {
         let end = self.at + bytes.len();
@@ -39,7 +39,7 @@ impl Output<'_> {
 
     /// Puts the mark, the version, and the schema after its count.
     fn put_opening(&mut self, row: Row)
-        requires { self.old.at + (6 + length row.codes.list.now) ≤ length self.old.buffer.now }
+        requires { Room self.old (6 + length row.codes.list.now) }
         ensures { Put self.old self.new (opening_bytes row.version row.codes.list.now) }
     {
         self.put(b"OBF");
@@ -50,7 +50,7 @@ impl Output<'_> {
 
     /// Puts the fields with some codes.
     fn put_fields<F: Coded>(&mut self, codes: Codes, fields: &F)
-        requires { self.old.at + 8 * length codes.list.now ≤ length self.old.buffer.now }
+        requires { Room self.old (8 * length codes.list.now) }
         ensures { Put self.old self.new (field_bytes codes.list.now (F.field fields.now)) }
     {
         for code in codes.list {
@@ -60,7 +60,7 @@ impl Output<'_> {
 
     /// Puts lines, one after another.
     fn put_lines(&mut self, codes: Codes, lines: &[Line])
-        requires { self.old.at + 8 * length codes.list.now * length lines.now ≤ length self.old.buffer.now }
+        requires { Room self.old (8 * length codes.list.now * length lines.now) }
         ensures { Put self.old self.new (flat_map (line_bytes codes.list.now) (map line_fields lines.now)) }
     {
         for line in lines {

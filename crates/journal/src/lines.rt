@@ -1,12 +1,24 @@
 //! A text cut at its line feeds.
 ghost use Rattle.std.specs.Prelude.{◌≡◌, ◌<◌, length};
-ghost use Rattle.journal.specs.Lines.{Placed, first_line, after_line};
+ghost use Rattle.journal.specs.Lines.{before, after, Placed, first_line, after_line};
 
 /// The place of the first byte that is `mark`.
-pub(crate) fn place(bytes: &[u8], mark: u8) -> Option<usize>
+fn place(bytes: &[u8], mark: u8) -> Option<usize>
     ensures { Placed mark bytes.now result }
 {
     bytes.iter().position(|byte| *byte == mark)
+}
+
+/// The bytes before the first that is `mark`, and those after it: all and none where none is.
+pub(crate) fn cut(bytes: &[u8], mark: u8) -> (&[u8], &[u8])
+    ensures before { result.0.now ≡ before mark bytes.now }
+    ensures after { result.1.now ≡ after mark bytes.now }
+    ensures shorter { 0 < length bytes.now → length result.1.now < length bytes.now }
+{
+    match place(bytes, mark) {
+        Some(end) => (&bytes[..end], &bytes[end + 1..]),
+        None => (bytes, &[]),
+    }
 }
 
 /// The bytes before the first line feed, and those after it: all and none where there is no line feed.
@@ -15,8 +27,5 @@ pub fn first_line(text: &[u8]) -> (&[u8], &[u8])
     ensures rest { result.1.now ≡ after_line text.now }
     ensures shorter { 0 < length text.now → length result.1.now < length text.now }
 {
-    match place(text, b'\n') {
-        Some(end) => (&text[..end], &text[end + 1..]),
-        None => (text, &[]),
-    }
+    cut(text, b'\n')
 }

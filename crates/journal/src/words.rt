@@ -2,7 +2,7 @@
 ghost use Rattle.std.specs.Prelude.{◌≡◌, IfOk};
 ghost use Rattle.journal.specs.Words.{blank, uncommented as uncommented_of, words as words_of, contents};
 
-use crate::lines::place;
+use crate::lines::cut;
 use std::alloc::{AllocError, Global};
 
 fn is_blank(byte: u8) -> bool
@@ -15,10 +15,8 @@ fn is_blank(byte: u8) -> bool
 fn uncommented(line: &[u8]) -> &[u8]
     ensures { result.now ≡ uncommented_of line.now }
 {
-    match place(line, b'#') {
-        Some(end) => &line[..end],
-        None => line,
-    }
+    let (before, _) = cut(line, b'#');
+    before
 }
 
 /// The words of a line, in their order: the longest runs of bytes that are no blanks, up to the comment if there is one.

@@ -16,6 +16,7 @@ pub(crate) struct Entry {
 }
 
 /// The acts, the latest last. Their room is reserved when the log is made.
+// No model: what a register has lived is said of the entries themselves, as of its plants.
 #[derive(Drop)]
 pub(crate) struct UndoLog {
     entries: Vec<Entry>,

@@ -1,10 +1,11 @@
 -- What a facility's year sees of its places, where no later filing counts, and what a filing keeps.
-use Rattle.std.specs.Prelude.{ℕ, List, take}
+use Rattle.std.specs.Prelude.{ℕ, List, map, take}
 use Rattle.filing.specs.declared.filing.Filing.{Filing}
 use Rattle.filing.specs.declared.parts.Line.{Line}
 use Rattle.enrolment.specs.Views.{enrolled}
 use Rattle.enrolment.specs.declared.fields.EnrolmentFields.{EnrolmentFields}
 use Rattle.standard.specs.Places.{Places, filings, up_to}
+use Rattle.standard.specs.Reference.{YearFigures, figures_at}
 use Rattle.standard.specs.declared.activity.Activity.{Activity}
 use Rattle.standard.specs.declared.facility.FacilityYear.{FacilityYear}
 
@@ -22,6 +23,10 @@ as_seen f at = f (enrolled at.enrolment.now) (seen at)
 -- and for an activity of the facility
 abbrev pub by_activity {ℓ} : {A : Type ℓ} → (EnrolmentFields → Places → ℕ → A) → Activity → A
 by_activity f a = as_seen f a.at a.number
+
+-- what these years have of an activity
+abbrev pub figured : Activity → List ℕ → List YearFigures
+figured a ys = map (figures_at (seen a.at) a.number) ys
 
 -- the lines of a filing, as it keeps them
 abbrev pub lines_of : Filing → List Line

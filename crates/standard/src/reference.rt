@@ -1,7 +1,7 @@
 //! The reference years of an activity, by the facility's choice.
-ghost use Rattle.std.specs.Prelude.{◌≡◌, ◌≤◌, Some, [], ◌∷◌, map, filter};
+ghost use Rattle.std.specs.Prelude.{◌≡◌, ◌≤◌, Some, [], ◌∷◌, filter};
 ghost use Rattle.standard.specs.Reference.{qualifies, figures_at, before_base, reference_years, references};
-ghost use Rattle.standard.specs.Seen.{seen, as_seen, by_activity};
+ghost use Rattle.standard.specs.Seen.{seen, as_seen, by_activity, figured};
 ghost use Rattle.standard.specs.Views.{listed, year_figures};
 
 use crate::activity::Activity;
@@ -18,7 +18,7 @@ const SECOND_FIXED: u64 = 2018;
 impl Activity<'_> {
     /// Those of the two fixed years that qualify.
     fn fixed_years(self) -> Option<ReferenceYears>
-        ensures { listed result ≡ map (figures_at (seen self.entry.at) self.entry.number) (filter (qualifies (seen self.entry.at) self.entry.number) (2017 ∷ 2018 ∷ [])) }
+        ensures { listed result ≡ figured self.entry (filter (qualifies (seen self.entry.at) self.entry.number) (2017 ∷ 2018 ∷ [])) }
     {
         match (self.of_year(FIRST_FIXED), self.of_year(SECOND_FIXED)) {
             (Some(first), Some(second)) => Some(ReferenceYears::Two(first, second)),
@@ -31,7 +31,7 @@ impl Activity<'_> {
     fn years_before(self, base: ReferenceYear) -> ReferenceYears
         requires early { 2019 ≤ base.year }
         requires is { year_figures base ≡ figures_at (seen self.at) self.number base.year }
-        ensures { listed (Some result) ≡ map (figures_at (seen self.entry.at) self.entry.number) (before_base (qualifies (seen self.entry.at) self.entry.number) base.year) }
+        ensures { listed (Some result) ≡ figured self.entry (before_base (qualifies (seen self.entry.at) self.entry.number) base.year) }
     {
         match (self.of_year(base.year - 1), self.of_year(base.year - 2)) {
             (Some(before), Some(earlier)) => ReferenceYears::Two(earlier, before),
@@ -43,7 +43,7 @@ impl Activity<'_> {
     /// The years of the facility's choice.
     #[tactic(auto, using(crate::proofs::BaseMeaning::base_from))]
     fn chosen_years(self) -> Option<ReferenceYears>
-        ensures { listed result ≡ map (figures_at (seen self.entry.at) self.entry.number) (by_activity reference_years self.entry) }
+        ensures { listed result ≡ figured self.entry (by_activity reference_years self.entry) }
     {
         match self.at.enrolment.choice {
             Choice::Fixed => self.fixed_years(),
