@@ -35,6 +35,7 @@ impl EngineFault {
     pub fn number(&self) -> u64
         ensures { result ≡ (engine_told self.now).number }
     {
+        // Written out: the number is that of the fault within, and an enum with values can't be cast to one.
         match self {
             EngineFault::Read(fault) => fault.number(),
             EngineFault::Register(refusal) => refusal.number(),
