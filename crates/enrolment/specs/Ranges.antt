@@ -6,22 +6,16 @@ use Rattle.enrolment.specs.declared.fields.EnrolmentFields.{EnrolmentFields}
 abbrev pub between : ℕ → ℕ → ℕ → Bool
 between least most n = nat_le least n && nat_le n most
 
-abbrev pub in_ranges : EnrolmentFields → Bool
-in_ranges e =
-    between 1 4 e.facility
-    && (between 1 2 e.kind
-    && (between 1900 2036 e.year
-    && (between 1 (days_in e.year) e.day
-    && (between 1 3 e.choice
-    && between 1 100 e.factor))))
-
--- those of the fields that are no kind and no choice
+-- the ranges of the fields that are no kind and no choice
 abbrev pub numbers_in_ranges : EnrolmentFields → Bool
 numbers_in_ranges e =
     between 1 4 e.facility
     && (between 1900 2036 e.year
     && (between 1 (days_in e.year) e.day
     && between 1 100 e.factor))
+
+abbrev pub in_ranges : EnrolmentFields → Bool
+in_ranges e = between 1 2 e.kind && (between 1 3 e.choice && numbers_in_ranges e)
 
 abbrev pub From : ℕ → ℕ → ℕ → Type 0
 From least most n = (least ≤ n) × (n ≤ most)
