@@ -1,10 +1,13 @@
 //! Records, read from the front of bytes one after another.
-ghost use Rattle.std.specs.Prelude.{◌≡◌, ℕ, ◌<◌, ◌≤◌, length, IfOk};
+ghost use Rattle.std.specs.Prelude.{◌≡◌, ℕ, ◌<◌, ◌≤◌, length, IfOk, Ok, Err};
 ghost use Rattle.std.specs.Iterator.{YieldsFirstBy, item_count};
 ghost use Rattle.filing.specs.Views.{filed};
 ghost use Rattle.codec.specs.Answers.{Says};
+ghost use Rattle.codec.specs.Laws.{Matches, Differs, Followed, Cuts, WritesBack};
 ghost use Rattle.codec.specs.Reading.{reading};
 ghost use Rattle.codec.specs.Records.{records_of, records_left, said};
+ghost use Rattle.codec.specs.Table.{written_version};
+ghost use Rattle.codec.specs.declared.faults.ReadFault.TheVariants.{Schema};
 
 use crate::faults::ReadFault;
 use crate::input::Input;
@@ -25,6 +28,11 @@ impl Record {
     pub fn read(bytes: &[u8]) -> Result<Record, ReadFault>
         ensures says { Says (λ r. (r.used, r.version, filed r.signed)) result (reading bytes.now) }
         ensures within { IfOk result (λ r. (0 < r.used) × (r.used ≤ length bytes.now)) }
+        ensures matches { IfOk result (λ r. Matches bytes.now r.version) }
+        ensures differs { (n : ℕ) → result ≡ Err (Schema n) → Differs bytes.now n }
+        ensures followed { IfOk result (λ r. Followed bytes.now r.used) }
+        ensures cuts { IfOk result (λ r. Cuts bytes.now r.used) }
+        ensures back { IfOk result (λ r. r.version ≡ written_version → WritesBack (filed r.signed) bytes.now r.used) }
     {
         let version = opening(bytes)?;
         let row = row_of(version).ok_or(ReadFault::Version)?;
