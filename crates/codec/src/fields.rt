@@ -34,13 +34,13 @@ fn number(bytes: &[u8; FIELD]) -> u64
 
 impl Values<'_> {
     /// The field with a code, and 0 where the codes lack it.
+    // By the place of the code: a `zip` of the codes with their bytes takes half as long again to read a record.
     fn field(&self, code: u8) -> u64
         ensures { result ≡ field_of self.now.codes.list.now self.now.bytes.now code }
     {
         let (fields, _) = self.bytes.as_chunks::<FIELD>();
-        let mut coded = self.codes.list.iter().zip(fields);
-        match coded.find(|(own, _)| **own == code) {
-            Some((_, bytes)) => number(bytes),
+        match self.codes.list.iter().position(|own| *own == code) {
+            Some(i) => number(&fields[i]),
             None => 0,
         }
     }

@@ -1,12 +1,13 @@
 -- The bytes that the decoder of hexadecimal text gives are those of the pairs of digits.
-use Rattle.std.proofs.Common.{◌≡◌, ℕ, ◌+◌, ◌*◌, ◌/◌, ◌%◌, true, ◌==◌, eqb, List, [], ◌∷◌, ◌++◌, length, take, drop, Some, None, Option, Ok, Err, Result, MatchResult, sym, refl, ap, ◌∙◌, append_assoc, arith}
+use Rattle.std.proofs.Common.{◌≡◌, ℕ, ◌+◌, ◌*◌, ◌/◌, ◌%◌, Bool, true, false, ◌&&◌, ◌==◌, eqb, List, [], ◌∷◌, ◌++◌, length, take, drop, is_some, Some, None, Option, Ok, Err, Result, MatchResult, sym, refl, ap, ◌∙◌, append_assoc, arith}
+use Rattle.std.specs.List.{list_all}
 use Rattle.std.specs.Option.{option_map, MatchOption, IsSomeAnd}
 use Rattle.std.specs.Result.{result_ok}
 use Rattle.std.proofs.lemmas.Bool.{cond_both, cond-true, eqb-true, eqb-false}
 use Rattle.hex.specs.declared.error.FromHexError.{FromHexError}
 use lib.Pointwise.{pointwise}
 use Rattle.hex.specs.Hex.{hex_digit_value, value_at, pair_value, decode_pairs, decode_sized, digit_or_error, ◌>>=◌}
-use Rattle.journal.specs.Sources.{is_hex, hex_digit, both, hex_byte, hex_bytes, unhexed}
+use Rattle.journal.specs.Sources.{is_hex, hex_digit, is_hex_digit, both, hex_byte, hex_bytes, unhexed}
 
 abbrev pub decoded : {A : Type 0} → Result A FromHexError → Option A
 decoded (Ok x) = Some x
@@ -94,3 +95,43 @@ paired_more : (a b : ℕ) (ds : List ℕ) (x : Option ℕ) (o : Option (List ℕ
 paired_more a b ds None o h = tt
 paired_more a b ds (Some x) None h = tt
 paired_more a b ds (Some x) (Some bs) h = omega arith
+
+-- digits are pairs of hexadecimal digits just where pairs of them write bytes
+both_some : {X Y Z : Type 0} (f : X → Y → Z) (o : Option X) (p : Option Y) → is_some (both f o p) ≡ (is_some o && is_some p)
+both_some f None p = refl
+both_some f (Some x) None = refl
+both_some f (Some x) (Some y) = refl
+
+and_pairs : (e a b c : Bool) → (e && (a && (b && c))) ≡ ((a && b) && (e && c))
+and_pairs true true b c = refl
+and_pairs true false b c = refl
+and_pairs false true true c = refl
+and_pairs false true false c = refl
+and_pairs false false b c = refl
+
+pub are_pairs : (ds : List ℕ) → ((length ds % 2 == 0) && list_all is_hex_digit ds) ≡ is_some (hex_bytes ds)
+are_pairs [] = refl
+are_pairs (a ∷ []) = refl
+are_pairs (a ∷ b ∷ ds) =
+    let more : ℕ → List ℕ → List ℕ = λ x xs. x ∷ xs in
+    let byte : ℕ → ℕ → ℕ = λ h l. h * 16 + l in
+    let even : length (a ∷ b ∷ ds) % 2 ≡ length ds % 2 = omega arith in
+    ap (λ n. (n == 0) && list_all is_hex_digit (a ∷ b ∷ ds)) even
+    ∙ and_pairs (length ds % 2 == 0) (is_hex_digit a) (is_hex_digit b) (list_all is_hex_digit ds)
+    ∙ ap (λ e. (is_hex_digit a && is_hex_digit b) && e) (are_pairs ds)
+    ∙ ap (λ e. e && is_some (hex_bytes ds)) (sym (both_some byte (hex_digit a) (hex_digit b)))
+    ∙ sym (both_some more (hex_byte a b) (hex_bytes ds))
+
+pub even_pairs : (ds : List ℕ) → length ds % 2 ≡ 0 → list_all is_hex_digit ds ≡ is_some (hex_bytes ds)
+even_pairs ds h = ap (λ n. (n == 0) && list_all is_hex_digit ds) (sym h) ∙ are_pairs ds
+
+pub odd_pairs : (ds : List ℕ) → length ds % 2 ≡ 1 → (length ds % 2 == 0) ≡ is_some (hex_bytes ds)
+odd_pairs ds h = ap (λ n. n == 0) h ∙ ap is_some (sym (odd ds h))
+
+none_is : (o : Option (List ℕ)) → is_some o ≡ false → o ≡ None
+none_is None h = refl
+none_is (Some x) h = absurd (grind (arith, h))
+
+-- a word whose digits are no pairs writes no bytes
+pub unpaired : (w ds : List ℕ) → pointwise eqb (take 2 w) (48 ∷ 120 ∷ []) ≡ true → ds ≡ drop 2 w → is_some (hex_bytes ds) ≡ false → None ≡ unhexed w
+unpaired w ds t e h = sym (none_is (hex_bytes ds) h) ∙ ap hex_bytes e ∙ sym (cond-true (is_hex w) (hex_bytes (drop 2 w)) None (prefixed w t))

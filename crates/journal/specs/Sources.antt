@@ -1,5 +1,5 @@
 -- The word that names a record, and bytes in hexadecimal digits.
-use Rattle.std.specs.Prelude.{◌≡◌, ℕ, ◌+◌, ◌-◌, ◌*◌, Bool, false, cond, ◌&&◌, List, [], ◌∷◌, length, drop, Some, None, codes, Option, ◌==◌, nat_le}
+use Rattle.std.specs.Prelude.{◌≡◌, ℕ, ◌+◌, ◌-◌, ◌*◌, Bool, false, cond, ◌&&◌, List, [], ◌∷◌, length, drop, is_some, Some, None, codes, Option, ◌==◌, nat_le}
 use Rattle.std.specs.Str.{bytes_eq}
 
 -- the second of two words, where the first is `sign`
@@ -22,6 +22,9 @@ hex_digit b =
     (cond (nat_le 97 b && nat_le b 102) (Some (b - 97 + 10))
     (cond (nat_le 65 b && nat_le b 70) (Some (b - 65 + 10))
     None))
+
+abbrev pub is_hex_digit : ℕ → Bool
+is_hex_digit b = is_some (hex_digit b)
 
 abbrev pub both : {X Y Z : Type 0} → (X → Y → Z) → Option X → Option Y → Option Z
 both f None p = None
