@@ -6,3 +6,4 @@ pub mod Row
 pub mod Records
 pub mod Readings
 pub mod Pairs
+pub mod Following

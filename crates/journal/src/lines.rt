@@ -1,6 +1,7 @@
 //! A text cut at its line feeds.
 ghost use Rattle.std.specs.Prelude.{◌≡◌, ◌<◌, length};
-ghost use Rattle.journal.specs.Lines.{before, after, Placed, first_line, after_line};
+ghost use Rattle.std.specs.Iterator.{YieldsFirstBy, item_count};
+ghost use Rattle.journal.specs.Lines.{before, after, Placed, first_line, after_line, lines_of, lines_left};
 
 /// The place of the first byte that is `mark`.
 fn place(bytes: &[u8], mark: u8) -> Option<usize>
@@ -28,4 +29,35 @@ pub fn first_line(text: &[u8]) -> (&[u8], &[u8])
     ensures shorter { 0 < length text.now → length result.1.now < length text.now }
 {
     cut(text, b'\n')
+}
+
+/// The lines of a text, one after another.
+#[derive(Drop)]
+pub struct Lines<'a> {
+    rest: &'a [u8],
+}
+
+impl<'a> From<&'a [u8]> for Lines<'a> {
+    ghost from_gives = { λ text lines. lines_left lines ≡ lines_of text.now };
+
+    fn from(text: &'a [u8]) -> Lines<'a> {
+        Lines { rest: text }
+    }
+}
+
+impl<'a> Iterator for Lines<'a> {
+    type Item = &'a [u8];
+
+    ghost next_gives = { YieldsFirstBy (λ line. line.now) lines_left };
+
+    ghost remaining = { item_count lines_left };
+
+    fn next(&mut self) -> Option<&'a [u8]> {
+        if self.rest.is_empty() {
+            return None;
+        }
+        let (line, rest) = first_line(self.rest);
+        self.rest = rest;
+        Some(line)
+    }
 }

@@ -4,6 +4,7 @@ use crate::failures::Failure;
 use codec::record::Record;
 use journal::desk::Desk;
 use journal::excerpt::Excerpt;
+use journal::lines::Lines;
 use journal::sources::{is_hex, record_word, unhexed};
 use journal::steps::read_step;
 use journal::words::words;
@@ -122,7 +123,7 @@ pub(crate) fn run(rt: &HostRuntime, text: &[u8]) -> Result<(), Failure> {
     let mut out = BufWriter::new(rt.alloc(), rt.stdout()).map_err(|_| Failure::Memory)?;
     let mut desk = Desk::new();
     let mut misread: u64 = 0;
-    for (number, line) in (1u64..).zip(text.split(|byte| *byte == b'\n')) {
+    for (number, line) in (1u64..).zip(Lines::from(text)) {
         match answer(rt, &mut desk, line) {
             Ok(None) => {}
             Ok(Some(text)) => writeln!(out, "{number}\t{text}").map_err(Failure::Output)?,

@@ -1,4 +1,4 @@
-use Rattle.std.proofs.Common.{◌≡◌, ◌%◌, length, ◌∙◌, arith}
+use Rattle.std.proofs.Common.{◌∙◌, arith}
 use Rattle.journal.proofs.Pairs.{even_pairs, odd_pairs}
 use Rattle.journal.proofs.sources.are_pairs.Goals as goal
 
