@@ -17,7 +17,7 @@ impl Activity<'_> {
     fn may_be_base(self, year: u64) -> bool
         ensures { result ≡ by_activity may_be_base self.entry year }
     {
-        !self.at.enrolment.exempt(year) && self.of_year(year).is_some()
+        !self.at.enrolment.exempt(year) && self.has(year)
     }
 
     /// The earliest year that may be the base year.

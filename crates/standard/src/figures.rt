@@ -5,7 +5,7 @@ ghost use Rattle.filing.specs.Parts.{line_fields};
 ghost use Rattle.filing.specs.Views.{filed};
 ghost use Rattle.standard.specs.Found.{YearOf};
 ghost use Rattle.standard.specs.Places.{standing};
-ghost use Rattle.standard.specs.Reference.{of_activity};
+ghost use Rattle.standard.specs.Reference.{of_activity, qualifies};
 ghost use Rattle.standard.specs.Seen.{lines_of, seen};
 
 use crate::activity::Activity;
@@ -67,6 +67,17 @@ impl Activity<'_> {
             kg: total.kg.saturating_sub(self.other_kg(filing)),
             thousandths: self.own_production(filing),
         })
+    }
+
+    /// Whether a year has a line of the activity. Unlike `of_year`, it works out no figures.
+    #[tactic(auto, using(crate::proofs::Filed::among))]
+    pub(crate) fn has(self, year: u64) -> bool
+        ensures { result ≡ qualifies (seen self.entry.at) self.entry.number year }
+    {
+        match self.at.seen(year) {
+            Some(signed) => self.is_in(signed.filing()),
+            None => false,
+        }
     }
 
     /// What a year has of the activity.
