@@ -33,10 +33,12 @@ impl Activity<'_> {
         requires is { year_figures base ≡ figures_at (seen self.at) self.number base.year }
         ensures { listed (Some result) ≡ figured self.entry (before_base (qualifies (seen self.entry.at) self.entry.number) base.year) }
     {
-        match (self.of_year(base.year - 1), self.of_year(base.year - 2)) {
-            (Some(before), Some(earlier)) => ReferenceYears::Two(earlier, before),
-            (Some(before), None) => ReferenceYears::One(before),
-            (None, _) => ReferenceYears::One(base),
+        let Some(before) = self.of_year(base.year - 1) else {
+            return ReferenceYears::One(base);
+        };
+        match self.of_year(base.year - 2) {
+            Some(earlier) => ReferenceYears::Two(earlier, before),
+            None => ReferenceYears::One(before),
         }
     }
 
