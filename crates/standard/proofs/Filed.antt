@@ -1,7 +1,7 @@
 -- What the lines of a sound filing come to for an activity.
-use Rattle.std.proofs.Common.{◌≡◌, ℕ, ◌<◌, ◌≤◌, Bool, true, not, ltb, List, length, map, filter, sum_by, Some, sym, ap, ◌∙◌, subst, arith}
+use Rattle.std.proofs.Common.{◌≡◌, ℕ, ◌<◌, ◌≤◌, Bool, true, false, not, ltb, List, length, map, filter, sum_by, Some, sym, ap, ◌∙◌, subst, arith}
 use Rattle.std.proofs.lemmas.List.{length-map, length-take}
-use Rattle.std.proofs.lemmas.Bool.{eqb-true, and_parts, ltb-true}
+use Rattle.std.proofs.lemmas.Bool.{eqb-true, and_parts, ltb-true, lt-ltb}
 use Rattle.filing.specs.Filing.{FilingFields}
 use Rattle.filing.specs.Kinds.{kind_of}
 use Rattle.filing.specs.Parts.{line_fields}
@@ -38,6 +38,13 @@ has_made activity f s = some_passed (of_activity activity) (λ l. l.production) 
 
 pub made_above : (activity : ℕ) (f : FilingFields) → Sound f → (made : ℕ) → made ≡ made_by activity f → has_activity activity (Some f) ≡ true → 0 < made
 made_above activity f s made is has = omega (arith, ltb-true 0 (made_by activity f) (sym (has_made activity f s) ∙ has))
+
+-- so none of it is no line of the activity, and some of it is a line
+pub made_none : (activity : ℕ) (f : FilingFields) → Sound f → (made : ℕ) → made ≡ made_by activity f → made ≡ 0 → has_activity activity (Some f) ≡ false
+made_none activity f s made is none = has_made activity f s ∙ ap (ltb 0) (sym is ∙ none)
+
+pub made_some : (activity : ℕ) (f : FilingFields) → Sound f → (made : ℕ) → made ≡ made_by activity f → 0 < made → has_activity activity (Some f) ≡ true
+made_some activity f s made is more = has_made activity f s ∙ ap (ltb 0) (sym is) ∙ lt-ltb 0 made more
 
 -- the lines of a filing are at most six
 pub few_lines : (f : Filing) → length (lines_of f) ≤ 6

@@ -2,10 +2,10 @@
 ghost use Rattle.std.specs.Prelude.{◌≡◌, ◌≤◌, not, sum_by, filter, Some};
 ghost use Rattle.std.specs.List.{list_any};
 ghost use Rattle.filing.specs.Parts.{line_fields};
-ghost use Rattle.filing.specs.Views.{filed};
+ghost use Rattle.filing.specs.Views.{fields_of, filed};
 ghost use Rattle.standard.specs.Found.{YearOf};
 ghost use Rattle.standard.specs.Places.{standing};
-ghost use Rattle.standard.specs.Reference.{of_activity, qualifies};
+ghost use Rattle.standard.specs.Reference.{of_activity, made_by, qualifies};
 ghost use Rattle.standard.specs.Seen.{lines_of, seen};
 
 use crate::activity::Activity;
@@ -13,6 +13,9 @@ use crate::units::ReferenceYear;
 use filing::filing::Filing;
 use filing::kinds::LineKind;
 use filing::signed::Signed;
+
+/// The production of an activity that has no line.
+const WITHOUT_LINE: u64 = 0;
 
 impl Activity<'_> {
     /// Whether a line of the filing is of the activity.
@@ -25,47 +28,40 @@ impl Activity<'_> {
             .any(|line| line.is(LineKind::Calculated, self.number))
     }
 
-    // The next two are chains that read alike. One function over the test and the number as closures was tried: its
-    // clauses on what these return are longer than a chain, and that the sum fits was not found from them.
-
-    /// The kilograms attributed to the lines that are not of the activity.
-    fn other_kg(self, filing: &Filing) -> u64
-        ensures { result ≡ sum_by (λ l. l.attributed.kg) (filter (λ l. not (of_activity self.entry.number (line_fields l))) (lines_of filing.now)) }
+    /// The kilograms attributed to the lines that are not of the activity, and the production in thousandths of those
+    /// that are.
+    fn sums(self, filing: &Filing) -> (u64, u64)
+        ensures others { result.0 ≡ sum_by (λ l. l.attributed) (filter (λ l. not (of_activity self.entry.number l)) (fields_of filing.now).lines) }
+        ensures made { result.1 ≡ made_by self.entry.number (fields_of filing.now) }
     {
-        filing
-            .lines()
-            .iter()
-            .filter(|line| !line.is(LineKind::Calculated, self.number))
-            .map(|line| line.attributed.kg)
-            .sum()
-    }
-
-    /// The production of the lines of the activity, in thousandths.
-    fn own_production(self, filing: &Filing) -> u64
-        ensures { result ≡ sum_by (λ l. l.production.thousandths) (filter (λ l. of_activity self.entry.number (line_fields l)) (lines_of filing.now)) }
-    {
-        filing
-            .lines()
-            .iter()
-            .filter(|line| line.is(LineKind::Calculated, self.number))
-            .map(|line| line.production.thousandths)
-            .sum()
+        let lines = filing.lines();
+        let mut others = 0;
+        let mut made = 0;
+        // One `for`: two chains, one for each sum, would walk the lines twice.
+        for line in lines {
+            if line.is(LineKind::Calculated, self.number) {
+                made += line.production.thousandths;
+            } else {
+                others += line.attributed.kg;
+            }
+        }
+        (others, made)
     }
 
     /// What the filing of a year has of the activity, or nothing where no line is of it.
-    #[tactic(auto, using(crate::proofs::Filed::has_as))]
     fn filed(self, signed: &Signed, year: u64) -> Option<ReferenceYear>
         ensures { YearOf self.entry.number year (Some (filed signed.now)) result }
     {
         let filing = signed.filing();
-        if !self.is_in(filing) {
+        let (others, made) = self.sums(filing);
+        if made == WITHOUT_LINE {
             return None;
         }
         let total = filing.total();
         Some(ReferenceYear {
             year,
-            kg: total.kg.saturating_sub(self.other_kg(filing)),
-            thousandths: self.own_production(filing),
+            kg: total.kg.saturating_sub(others),
+            thousandths: made,
         })
     }
 
