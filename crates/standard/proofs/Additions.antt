@@ -1,6 +1,9 @@
--- What lines add to a unit, and what is left of the places to add.
-use Rattle.std.proofs.Common.{◌≡◌, ℕ, ◌+◌, ◌≤◌, Bool, true, false, cond, not, ◌&&◌, List, [], ◌∷◌, map, length, sum_by, filter, Option, sym, refl, ap, ◌∙◌, arith}
+-- What lines add to a unit, a line more, and what is left of the places to add.
+use Rattle.std.proofs.Common.{◌≡◌, ℕ, ◌+◌, ◌<◌, ◌≤◌, Bool, true, false, cond, not, ◌&&◌, List, [], ◌∷◌, ◌++◌, map, length, get_or, take, sum_by, filter, Option, sym, refl, ap, ◌∙◌, subst, arith}
+use Rattle.std.proofs.lemmas.List.Elements.{filter-append}
 use Rattle.std.proofs.lemmas.List.Filters.{sum_by-filter_both}
+use Rattle.std.proofs.lemmas.List.{map_push, map_more, take_all}
+use Rattle.std.proofs.lemmas.List.Sums.{sum_by-append}
 use Rattle.filing.specs.Parts.{line_fields}
 use Rattle.filing.specs.Views.{fields_of}
 use Rattle.filing.specs.declared.filing.Filing.{Filing}
@@ -28,6 +31,39 @@ twice p false x ys zs e = e
 filter_twice : {X : Type 0} (p q : X → Bool) (xs : List X) → filter p (filter q xs) ≡ filter (λ x. q x && p x) xs
 filter_twice p q [] = refl
 filter_twice p q (x ∷ xs) = twice p (q x) x (filter q xs) (filter (λ z. q z && p z) xs) (filter_twice p q xs)
+
+part_append : (p : Dated → Bool) (unit : ℕ) (xs ys : List Dated) → sum_by megawatts (filter p (filter (of_unit unit) (xs ++ ys))) ≡ sum_by megawatts (filter p (filter (of_unit unit) xs)) + sum_by megawatts (filter p (filter (of_unit unit) ys))
+part_append p unit xs ys =
+    ap (λ ds. sum_by megawatts (filter p ds)) (filter-append (of_unit unit) xs ys)
+    ∙ ap (sum_by megawatts) (filter-append p (filter (of_unit unit) xs) (filter (of_unit unit) ys))
+    ∙ sum_by-append megawatts (filter p (filter (of_unit unit) xs)) (filter p (filter (of_unit unit) ys))
+
+pub adds_none : (unit : ℕ) → Adds unit [] 0 0
+adds_none unit = record { triggering = refl; other = refl }
+
+adds_append : (unit : ℕ) (xs ys : List Dated) (t u v w : ℕ) → Adds unit xs t u → Adds unit ys v w → Adds unit (xs ++ ys) (t + v) (u + w)
+adds_append unit xs ys t u v w a b = record {
+  triggering = ap (λ n. n + v) a.triggering ∙ ap (λ n. sum_by megawatts (filter triggers (filter (of_unit unit) xs)) + n) b.triggering ∙ sym (part_append triggers unit xs ys);
+  other = ap (λ n. n + w) a.other ∙ ap (λ n. sum_by megawatts (filter (λ d. not (triggers d)) (filter (of_unit unit) xs)) + n) b.other ∙ sym (part_append (λ d. not (triggers d)) unit xs ys);
+}
+
+-- the lines of a filing, as dated by its place
+abbrev pub dated_lines : ℕ → List Line → List Dated
+dated_lines y ls = map (dated y) (map line_fields ls)
+
+lines_more : (y : ℕ) (ls : List Line) (i : ℕ) (l : Line) → i < length ls → l ≡ get_or ls i l → dated_lines y (take (i + 1) ls) ≡ dated_lines y (take i ls) ++ dated y (line_fields l) ∷ []
+lines_more y ls i l below is =
+    ap (map (dated y)) (map_more line_fields ls i l below)
+    ∙ map_push (dated y) (map line_fields (take i ls)) (line_fields (get_or ls i l))
+    ∙ ap (λ m. dated_lines y (take i ls) ++ dated y (line_fields m) ∷ []) (sym is)
+
+-- a line more
+pub adds_line : (unit y : ℕ) (ls : List Line) (i : ℕ) (l : Line) (t u v w : ℕ) → i < length ls → l ≡ get_or ls i l → Adds unit (dated_lines y (take i ls)) t u → Adds unit (dated y (line_fields l) ∷ []) v w → Adds unit (dated_lines y (take (i + 1) ls)) (t + v) (u + w)
+adds_line unit y ls i l t u v w below is a b =
+    subst (λ ds. Adds unit ds (t + v) (u + w)) (sym (lines_more y ls i l below is)) (adds_append unit _ _ t u v w a b)
+
+pub adds_lines_all : (unit y : ℕ) (ls : List Line) (i t u : ℕ) → length ls ≤ i → Adds unit (dated_lines y (take i ls)) t u → Adds unit (dated_lines y ls) t u
+adds_lines_all unit y ls i t u past a = subst (λ ms. Adds unit (dated_lines y ms) t u) (take_all i ls past) a
 
 -- what triggers and what does not are all
 pub adds_both : (unit : ℕ) (ds : List Dated) (t u : ℕ) → Adds unit ds t u → t + u ≡ sum_by megawatts (filter (of_unit unit) ds)

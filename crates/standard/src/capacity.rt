@@ -1,12 +1,13 @@
 //! The capacity of a unit that makes electricity from gaseous fuel.
-ghost use Rattle.std.specs.Prelude.{◌≡◌, ℕ, ◌+◌, ◌≤◌, [], ◌∷◌, map, filter, sum_by};
+ghost use Rattle.std.specs.Prelude.{◌≡◌, ℕ, ◌+◌, ◌≤◌, [], ◌∷◌, map, sum_by};
+ghost use Rattle.quantity.specs.Ranges.{most_megawatts};
 ghost use Rattle.filing.specs.Parts.{line_fields};
 ghost use Rattle.filing.specs.Views.{fields_of};
-ghost use Rattle.standard.specs.Adding.{Adds, triggers_is};
-ghost use Rattle.standard.specs.Capacity.{dated, lines_at, of_unit, triggers as triggers_in, megawatts, additions, triggering_megawatts, other_megawatts};
+ghost use Rattle.standard.specs.Adding.{Adds};
+ghost use Rattle.standard.specs.Capacity.{dated, lines_at, triggers as triggers_in, megawatts, additions, triggering_megawatts, other_megawatts};
 ghost use Rattle.standard.specs.Places.{filing_at};
 ghost use Rattle.standard.specs.Ranges.{most_added};
-ghost use Rattle.standard.specs.Seen.{lines_of, seen};
+ghost use Rattle.standard.specs.Seen.{seen};
 
 use crate::facility::FacilityYear;
 use crate::places::up_to;
@@ -41,17 +42,25 @@ struct UnitYear {
 }
 
 impl UnitYear {
-    /// The megawatts that the year's filing adds to the unit, and that trigger the decreasing standard, or that don't.
-    fn added(self, filing: &Filing, triggering: bool) -> u64
-        ensures { result ≡ sum_by (λ l. l.added.mw) (filter (λ l. triggers_is triggering (dated self.year (line_fields l))) (filter (λ l. of_unit self.unit (dated self.year (line_fields l))) (lines_of filing.now))) }
+    /// What a line of the year's filing adds to the unit.
+    fn added_by_line(self, line: &Line) -> Capacity
+        ensures adds { Adds self.unit (dated self.year (line_fields line.now) ∷ []) result.triggering result.other }
+        ensures bound { result.triggering + result.other ≤ most_megawatts }
     {
-        filing
-            .lines()
-            .iter()
-            .filter(|line| line.is(LineKind::Gaseous, self.unit))
-            .filter(|line| triggers(line, self.year) == triggering)
-            .map(|line| line.added.mw)
-            .sum()
+        if !line.is(LineKind::Gaseous, self.unit) {
+            return Capacity::NONE;
+        }
+        if triggers(line, self.year) {
+            Capacity {
+                triggering: line.added.mw,
+                other: 0,
+            }
+        } else {
+            Capacity {
+                triggering: 0,
+                other: line.added.mw,
+            }
+        }
     }
 
     /// What the year's filing adds to the unit.
@@ -59,10 +68,16 @@ impl UnitYear {
         ensures adds { Adds self.unit (map (dated self.year) (fields_of filing.now).lines) result.triggering result.other }
         ensures bound { result.triggering + result.other ≤ most_added }
     {
-        Capacity {
-            triggering: self.added(filing, true),
-            other: self.added(filing, false),
+        let lines = filing.lines();
+        let mut triggering = 0;
+        let mut other = 0;
+        // One `for`: two chains, for what triggers and for the rest, would walk the lines twice.
+        for line in lines {
+            let added = self.added_by_line(line);
+            triggering += added.triggering;
+            other += added.other;
         }
+        Capacity { triggering, other }
     }
 
     /// What the year's place adds to the unit.
