@@ -10,7 +10,7 @@ use Rattle.register.specs.Answers.{refused}
 use Rattle.register.specs.Calls.{call_fields}
 use Rattle.register.specs.Laws.{Laws}
 use Rattle.register.specs.Lived.{Lived}
-use Rattle.register.specs.Performing.{answered, KeptIf}
+use Rattle.register.specs.Performing.{answered, KeptIf, Trail}
 use Rattle.register.specs.Refusals.{refusal_told}
 use Rattle.engine.specs.Steps.{StepFields, said, file_record, amend_record, calls_of, StepAnswered, answers, recorded, unread, step_answer}
 use Rattle.engine.specs.declared.engine.Engine.{Engine}
@@ -71,8 +71,13 @@ engine_method = record { first = record {}; second = record {} }
 abbrev pub steps_of : List Step → List StepFields
 steps_of steps = reverse (map step_fields steps)
 
--- all steps: the laws hold at the end, and the k-th answer is what the first k steps make of the next
+-- before the first of n steps and after each of them the laws hold, and each does what `perform` promises
+abbrev pub StepsThroughout : List Step → List (Result StepAnswer EngineFault) → ℕ → Engine → Type 0
+StepsThroughout = Trail (λ ss g. EngineLaws engine_method (steps_of ss) g) (λ g h s a. Steps g h (step_fields s) (step_answered a) × StepKept a g h)
+
+-- all steps: the laws hold at the end and after every step, and the k-th answer is what the first k steps make of the next
 pub record RanSteps (steps : List Step) (g : Engine) (told : List (Result StepAnswer EngineFault)) : Type 0 where
   pub laws : EngineLaws engine_method (steps_of steps) g
   pub all : length told ≡ length steps
   pub each : (k : ℕ) (s : Step) (a : Result StepAnswer EngineFault) → k < length steps → step_answered (slice_index_or told k a) ≡ step_answer (engine_meaning engine_method) (step_fields (slice_index_or steps k s)) (steps_of (take k steps))
+  pub throughout : StepsThroughout steps told (length steps) g

@@ -18,3 +18,4 @@ pub mod Looks
 pub mod Enrolling
 pub mod Performed
 pub mod Telling
+pub mod Trails

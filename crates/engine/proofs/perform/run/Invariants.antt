@@ -1,5 +1,5 @@
 use Rattle.std.proofs.Common.{◌≡◌, ℕ, ◌<◌, ◌≤◌, length, get_or, take, vec_items, vec_len, vec_capacity, Result}
-use Rattle.engine.specs.Engine.{engine_meaning, engine_method, step_fields, step_answered, steps_of, EngineLaws}
+use Rattle.engine.specs.Engine.{engine_meaning, engine_method, step_fields, step_answered, steps_of, EngineLaws, StepsThroughout}
 use Rattle.engine.specs.Steps.{step_answer}
 use Rattle.engine.specs.declared.faults.EngineFault.{EngineFault}
 use Rattle.engine.specs.declared.steps.Step.{Step}
@@ -12,3 +12,4 @@ invariant-loop-step l =
     × (vec_len l.answers ≡ l.step-index)
     × (length l.steps ≤ vec_capacity l.answers)
     × ((k : ℕ) (s : Step) (a : Result StepAnswer EngineFault) → k < l.step-index → step_answered (get_or (vec_items l.answers) k a) ≡ step_answer (engine_meaning engine_method) (step_fields (get_or l.steps k s)) (steps_of (take k l.steps)))
+    × StepsThroughout l.steps (vec_items l.answers) l.step-index l.engine
