@@ -44,6 +44,12 @@ impl fmt::Display for Failure {
     }
 }
 
+impl From<RefusedRecord> for Failure {
+    fn from(refused: RefusedRecord) -> Failure {
+        Failure::Refused(refused)
+    }
+}
+
 impl From<AllocError> for Failure {
     fn from(_error: AllocError) -> Failure {
         Failure::Memory

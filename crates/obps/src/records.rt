@@ -97,8 +97,12 @@ pub(crate) fn show(rt: &HostRuntime, bytes: &[u8]) -> Result<(), Failure> {
 /// The records of a file one after another in the engine's version, or the first refusal.
 pub(crate) fn upgraded(heap: Global, bytes: &[u8]) -> Result<Vec<u8>, Failure> {
     let mut all = Vec::new(heap);
-    for record in Records::from(bytes).scan(0, with_offset) {
-        append(&mut all, &record.map_err(Failure::Refused)?.record.signed)?;
+    let mut offset: usize = 0;
+    // No `scan` by `with_offset`, as in `show`: each record would be copied three times more.
+    for record in Records::from(bytes) {
+        let Record { used, signed, .. } = record.map_err(|fault| RefusedRecord { offset, fault })?;
+        append(&mut all, &signed)?;
+        offset = offset.saturating_add(used);
     }
     Ok(all)
 }

@@ -5,7 +5,7 @@ ghost use Rattle.filing.specs.Parts.{line_fields};
 ghost use Rattle.filing.specs.Views.{fields_of};
 ghost use Rattle.standard.specs.Adding.{Adds};
 ghost use Rattle.standard.specs.Capacity.{dated, lines_at, triggers as triggers_in, megawatts, additions, triggering_megawatts, other_megawatts};
-ghost use Rattle.standard.specs.Places.{filing_at};
+ghost use Rattle.standard.specs.Places.{filing_at, filings, up_to as years_to};
 ghost use Rattle.standard.specs.Ranges.{most_added};
 ghost use Rattle.standard.specs.Seen.{seen};
 
@@ -15,7 +15,7 @@ use crate::units::Capacity;
 use filing::filing::Filing;
 use filing::kinds::LineKind;
 use filing::parts::Line;
-use filing::places::FIRST_YEAR;
+use filing::places::{FIRST_YEAR, YEARS};
 use filing::signed::Signed;
 
 /// The least addition that triggers the decreasing standard, in megawatts.
@@ -91,23 +91,32 @@ impl UnitYear {
     }
 }
 
+/// The capacity of a unit in a year: what the places of the years up to it add.
+pub fn capacity_of(places: &[Option<Signed>; YEARS], year: u64, unit: u16) -> Capacity
+    ensures triggering { result.triggering ≡ triggering_megawatts unit (years_to year (filings places.now)) }
+    ensures other { result.other ≡ other_megawatts unit (years_to year (filings places.now)) }
+    ensures all { result.triggering + result.other ≡ sum_by megawatts (additions unit (years_to year (filings places.now))) }
+{
+    let past = up_to(places, year);
+    let mut triggering = 0;
+    let mut other = 0;
+    // A `for`. A `fold` of a `Capacity` was tried: that the sum so far stays in its range is an invariant here,
+    // and was not found for the calls of a `fold`.
+    for (year, place) in (FIRST_YEAR..).zip(past) {
+        let added = UnitYear { unit, year }.added_at(place);
+        triggering += added.triggering;
+        other += added.other;
+    }
+    Capacity { triggering, other }
+}
+
 impl FacilityYear<'_> {
-    /// The capacity of a unit in the year: what the places of the years up to it add.
+    /// The capacity of a unit in the year, for which the enrolment makes no difference.
     pub fn capacity(self, unit: u16) -> Capacity
         ensures triggering { result.triggering ≡ triggering_megawatts unit (seen self.entry) }
         ensures other { result.other ≡ other_megawatts unit (seen self.entry) }
         ensures all { result.triggering + result.other ≡ sum_by megawatts (additions unit (seen self.entry)) }
     {
-        let past = up_to(self.places, self.year);
-        let mut triggering = 0;
-        let mut other = 0;
-        // A `for`. A `fold` of a `Capacity` was tried: that the sum so far stays in its range is an invariant here,
-        // and was not found for the calls of a `fold`.
-        for (year, place) in (FIRST_YEAR..).zip(past) {
-            let added = UnitYear { unit, year }.added_at(place);
-            triggering += added.triggering;
-            other += added.other;
-        }
-        Capacity { triggering, other }
+        capacity_of(self.places, self.year, unit)
     }
 }

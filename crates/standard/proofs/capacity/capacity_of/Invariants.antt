@@ -5,7 +5,7 @@ use Rattle.standard.specs.Capacity.{dated_from}
 use Rattle.standard.specs.Places.{filings}
 use Rattle.standard.specs.Ranges.{most_added, most_capacity}
 use Rattle.standard.proofs.Additions.{Left}
-use Rattle.standard.proofs.facility.FacilityYear.capacity.Given as goal
+use Rattle.standard.proofs.capacity.capacity_of.Given as goal
 
 abbrev pub invariant-loop-year : goal.invariant-loop-year
 invariant-loop-year l =
