@@ -44,12 +44,6 @@ impl fmt::Display for Failure {
     }
 }
 
-impl From<RefusedRecord> for Failure {
-    fn from(refused: RefusedRecord) -> Failure {
-        Failure::Refused(refused)
-    }
-}
-
 impl From<AllocError> for Failure {
     fn from(_error: AllocError) -> Failure {
         Failure::Memory

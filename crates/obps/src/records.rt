@@ -98,11 +98,20 @@ pub(crate) fn show(rt: &HostRuntime, bytes: &[u8]) -> Result<(), Failure> {
 pub(crate) fn upgraded(heap: Global, bytes: &[u8]) -> Result<Vec<u8>, Failure> {
     let mut all = Vec::new(heap);
     let mut offset: usize = 0;
-    // No `scan` by `with_offset`, as in `show`: each record would be copied three times more.
+    // No `scan` by `with_offset`, as in `show`, and no `?`: each would copy every record once more.
     for record in Records::from(bytes) {
-        let Record { used, signed, .. } = record.map_err(|fault| RefusedRecord { offset, fault })?;
-        append(&mut all, &signed)?;
-        offset = offset.saturating_add(used);
+        match &record {
+            Ok(record) => {
+                append(&mut all, &record.signed)?;
+                offset = offset.saturating_add(record.used);
+            }
+            Err(fault) => {
+                return Err(Failure::Refused(RefusedRecord {
+                    offset,
+                    fault: *fault,
+                }));
+            }
+        }
     }
     Ok(all)
 }
