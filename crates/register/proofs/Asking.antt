@@ -8,7 +8,7 @@ use Rattle.enrolment.specs.declared.enrolment.Enrolment.{Enrolment}
 use Rattle.limit.specs.Laws.{Meaning, Later}
 use Rattle.standard.specs.Places.{Places, filing_at, standing}
 use Rattle.register.specs.Acceptance.{Check, first_of, checks, unknown, book_full, spent, refusal_of, accepted}
-use Rattle.register.specs.Answers.{refused, numbered, granted, answer_by, number_answer}
+use Rattle.register.specs.Answers.{refused, numbered, granted, answer_by, answer_to, number_answer}
 use Rattle.register.specs.Calls.{CallFields, file, amend, withdraw, Act, filing_act, withdrawal, Event, acts, event_of}
 use Rattle.register.specs.History.{standing_at, places_of, enrolment_of, numbers}
 use Rattle.register.specs.Lived.{Holds, Lived, LivesAnswering}
@@ -72,6 +72,28 @@ module _ {M : Type 0} (μ : M → Meaning) (m : M) (r : Register M) (es : List E
 pub stands_same : {M : Type 0} (r : Register M) (f y : ℕ) (p q : Option Signed) → StandsAt r f y p → p ≡ q → StandsAt r f y q
 stands_same r f y p q stands same d d-is = sym (ap filing_at same) ∙ stands d d-is
 
+-- the same of one place, by the case of what was read
+module _ {M : Type 0} (μ : M → Meaning) (m : M) (r : Register M) (es : List Event) (H : Holds μ m r es) (f y : ℕ) (e : Enrolment) (p : Option Signed) (by : EnrolledBy r f e) (stands : StandsAt r f y p) where
+  pub placed_as_read : (b : Bool) → b ≡ is_some p → is_some (standing_at es f y) ≡ b
+  placed_as_read b is = stands_as_read μ m r es H f e by y p stands b (sym is)
+
+-- a call that asks first for the enrolment of f, and then for one thing more, whatever that is
+module _ {M : Type 0} (μ : M → Meaning) (m : M) (r : Register M) (c : CallFields) (cs : List CallFields) (L : Lived μ m r cs) (f : ℕ) (second : Check) (asks : checks c (accepted cs) ≡ unknown (accepted cs) f ∷ second ∷ book_full (accepted cs) ∷ spent (accepted cs) ∷ []) where
+  any_refused : (w : Refusal) → refusal_of c (accepted cs) ≡ Some w → Lived μ m r (c ∷ cs) × (refused (refusal_told w) ≡ answer_to (μ m) c cs)
+  any_refused w why = (refused_lives μ m r c cs w why L, sym (ap (λ o. answer_by o (granted (μ m) c (accepted cs))) why))
+
+  pub any_unknown : Absent r f → Lived μ m r (c ∷ cs) × (refused (refusal_told Unknown) ≡ answer_to (μ m) c cs)
+  any_unknown absent =
+      any_refused Unknown
+      (ap first_of asks ∙ check_holds (unknown (accepted cs) f) (second ∷ book_full (accepted cs) ∷ spent (accepted cs) ∷ []) (ap (λ o. not (is_some o)) (absent_none μ m r (accepted cs) L f absent)))
+
+  module _ (known : is_some (enrolment_of (accepted cs) f) ≡ true) where
+    any_passed : refusal_of c (accepted cs) ≡ first_of (second ∷ book_full (accepted cs) ∷ spent (accepted cs) ∷ [])
+    any_passed = ap first_of asks ∙ check_passes (unknown (accepted cs) f) (second ∷ book_full (accepted cs) ∷ spent (accepted cs) ∷ []) (ap not known)
+
+    pub any_second : second.0 ≡ true → Lived μ m r (c ∷ cs) × (refused (refusal_told second.1) ≡ answer_to (μ m) c cs)
+    any_second holds = any_refused second.1 (any_passed ∙ check_holds second (book_full (accepted cs) ∷ spent (accepted cs) ∷ []) holds)
+
 -- a call that acts on a place: it asks for the enrolment of the facility, whether something stands, and then for room
 pub record ActsOn (c : CallFields) (a : Act) (bars : Bool → Bool) (w : Refusal) : Type 0 where
   pub does : event_of c ≡ Some (acts a)
@@ -79,25 +101,20 @@ pub record ActsOn (c : CallFields) (a : Act) (bars : Bool → Bool) (w : Refusal
   pub grants : (meaning : Meaning) (es : List Event) → granted meaning c es ≡ numbered (numbers es + 1)
 
 module _ {M : Type 0} (μ : M → Meaning) (r : Register M) {c : CallFields} {a : Act} {bars : Bool → Bool} {w : Refusal} (on : ActsOn c a bars w) where
-  answered_refused : (v : Refusal) → ((m : M) (cs : List CallFields) → Lived μ m r cs → refusal_of c (accepted cs) ≡ Some v) → LivesAnswering μ r r c (refused (refusal_told v))
-  answered_refused v why m cs L =
-      (refused_lives μ m r c cs v (why m cs L) L, sym (ap (λ o. answer_by o (granted (μ m) c (accepted cs))) (why m cs L)))
-
   abbrev second : List Event → Check
   second es = (bars (is_some (standing_at es a.facility a.year)), w)
 
+  answered_refused : (v : Refusal) → ((m : M) (cs : List CallFields) → Lived μ m r cs → refusal_of c (accepted cs) ≡ Some v) → LivesAnswering μ r r c (refused (refusal_told v))
+  answered_refused v why m cs L = let es = accepted cs in any_refused μ m r c cs L a.facility (second es) (on.asks es) v (why m cs L)
+
   pub asked_unknown : Absent r a.facility → LivesAnswering μ r r c (refused (refusal_told Unknown))
-  asked_unknown absent =
-      answered_refused Unknown
-      (λ m cs L.
-      let es = accepted cs in
-      ap first_of (on.asks es) ∙ check_holds (unknown es a.facility) (second es ∷ book_full es ∷ spent es ∷ []) (ap (λ o. not (is_some o)) (absent_none μ m r es L a.facility absent)))
+  asked_unknown absent m cs L = let es = accepted cs in any_unknown μ m r c cs L a.facility (second es) (on.asks es) absent
 
   module _ (e : Enrolment) (by : EnrolledBy r a.facility e) where
     passed : (m : M) (cs : List CallFields) → Lived μ m r cs → refusal_of c (accepted cs) ≡ first_of (second (accepted cs) ∷ book_full (accepted cs) ∷ spent (accepted cs) ∷ [])
     passed m cs L =
         let es = accepted cs in
-        ap first_of (on.asks es) ∙ check_passes (unknown es a.facility) (second es ∷ book_full es ∷ spent es ∷ []) (ap not (by_enrolled μ m r es L a.facility e by))
+        any_passed μ m r c cs L a.facility (second es) (on.asks es) (by_enrolled μ m r es L a.facility e by)
 
     asked_second : (b : Bool) → bars b ≡ true → ((m : M) (cs : List CallFields) → Lived μ m r cs → is_some (standing_at (accepted cs) a.facility a.year) ≡ b) → LivesAnswering μ r r c (refused (refusal_told w))
     asked_second b barred is =

@@ -1,6 +1,6 @@
 -- What the lines of a sound filing come to for an activity.
-use Rattle.std.proofs.Common.{◌≡◌, ℕ, ◌<◌, ◌≤◌, Bool, true, false, not, ltb, List, length, map, filter, sum_by, Some, sym, ap, ◌∙◌, subst, arith}
-use Rattle.std.proofs.lemmas.List.{length-map, length-take}
+use Rattle.std.proofs.Common.{◌≡◌, ℕ, ◌<◌, ◌≤◌, Bool, true, false, not, ltb, List, length, map, take, filter, sum_by, Some, sym, ap, ◌∙◌, subst, arith}
+use Rattle.std.proofs.lemmas.List.{length-map, length-take, take_all}
 use Rattle.std.proofs.lemmas.Bool.{eqb-true, and_parts, ltb-true, lt-ltb}
 use Rattle.filing.specs.Filing.{FilingFields}
 use Rattle.filing.specs.Kinds.{kind_of}
@@ -22,6 +22,11 @@ use Rattle.standard.proofs.Lines.{few_small, list_any-map, some_passed, sum_by-f
 
 pub few_lines_filed : (f : FilingFields) (ls : List Line) → Sound f → map line_fields ls ≡ f.lines → length ls ≤ 6
 few_lines_filed f ls s e = omega (arith, s.few, ap length e, length-map ls line_fields)
+
+-- all lines of a filing, as many as a loop over them has gone past
+module _ (activity : ℕ) (f : FilingFields) (ls : List Line) (s : Sound f) (e : map line_fields ls ≡ f.lines) where
+  all : (i : ℕ) → length ls ≤ i → map line_fields (take i ls) ≡ f.lines
+  all i past = ap (map line_fields) (take_all i ls past) ∙ e
 
 -- a calculated line has production
 produces : (activity : ℕ) (l : LineFields) → LineInRange l → of_activity activity l ≡ true → 1 ≤ l.production

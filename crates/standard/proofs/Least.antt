@@ -1,5 +1,5 @@
 -- The least number that passes a test: a search upwards, and what it finds.
-use Rattle.std.proofs.Common.{◌≡◌, ℕ, zero, suc, ◌+◌, ◌-◌, ◌<◌, ◌≤◌, Bool, true, false, cond, List, [], ◌∷◌, Some, None, Option, Bor, sym, refl, ap, ◌∙◌, subst, ⊎_elim, arith}
+use Rattle.std.proofs.Common.{◌≡◌, ℕ, zero, suc, ◌+◌, ◌-◌, ◌<◌, ◌≤◌, Bool, true, false, cond, List, [], ◌∷◌, Some, None, Option, Bor, sym, refl, ap, ◌∙◌, subst, ⊎_elim, add-one, arith}
 use Rattle.std.specs.Fn.{CalledAt}
 use Rattle.std.specs.Iterator.{Yields, YieldsThen}
 use Rattle.std.specs.List.{FoldsTo}
@@ -56,6 +56,13 @@ module _ (test : ℕ → Bool) where
   -- the first number of the range that passes, or none, is what the search finds
   pub first_is : {F : Type 0} {g : Mut F (Bor ℕ × Unit {0}) Bool} (s u : RangeInclusive ℕ) (f : F) (r : Option ℕ) → (xs : List ℕ) × (j : F) × YieldsThen steps s xs r u × FoldsTo (λ p x q. CalledAt g p x false q) f xs j × IfSome r (λ x. (h : F) × CalledAt g j x true h) → ((x : ℕ) (q : F) → CalledAt g f x true q → test x ≡ true) → ((x : ℕ) (q : F) → CalledAt g f x false q → (q ≡ f) × (test x ≡ false)) → r ≡ answer s
   first_is s u f r d passes fails = found f passes fails d.0 s d.2.0 u r f d.1 refl d.2.1 d.2.2 d.3 d.4
+
+-- what stands after the numbers below y have failed, where o is the answer from the start
+module _ (test : ℕ → Bool) (y end : ℕ) (o : Option ℕ) (so_far : least_from test y (end - y) ≡ o) where
+  here : y < end → cond (test y) (Some y) (least_from test (y + 1) (end - (y + 1))) ≡ o
+  here within =
+      let one : end - y ≡ suc (end - (y + 1)) = omega arith in
+      ap (λ z. cond (test y) (Some y) (least_from test z (end - (y + 1)))) (add-one y) ∙ sym (ap (least_from test y) one) ∙ so_far
 
 -- x is the least from y on that passes
 pub record Least (test : ℕ → Bool) (y x : ℕ) : Type 0 where
