@@ -48,3 +48,7 @@ module _ (make : FilingFields → CallFields) (bytes : List ℕ) {r : Register (
 
 abbrev pub engine_of : Register (Joined Industrial Station) → Engine
 engine_of r = record { register = r }
+
+-- an engine is its register
+pub engine_same : (g : Engine) (s : Register (Joined Industrial Station)) → s ≡ g.register → engine_of s ≡ g
+engine_same g s h = ap engine_of h

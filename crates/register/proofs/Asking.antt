@@ -94,6 +94,22 @@ module _ {M : Type 0} (μ : M → Meaning) (m : M) (r : Register M) (c : CallFie
     pub any_second : second.0 ≡ true → Lived μ m r (c ∷ cs) × (refused (refusal_told second.1) ≡ answer_to (μ m) c cs)
     any_second holds = any_refused second.1 (any_passed ∙ check_holds second (book_full (accepted cs) ∷ spent (accepted cs) ∷ []) holds)
 
+    pub any_passes : second.0 ≡ false → refusal_of c (accepted cs) ≡ first_of (book_full (accepted cs) ∷ spent (accepted cs) ∷ [])
+    any_passes fails = any_passed ∙ check_passes second (book_full (accepted cs) ∷ spent (accepted cs) ∷ []) fails
+
+-- an act that nothing refuses but the undo log and the numbers
+module _ {M : Type 0} (μ : M → Meaning) (later : (m : M) → Later (μ m)) (m : M) (r s : Register M) (c : CallFields) (cs : List CallFields) (L : Lived μ m r cs) (a : Act) (does : event_of c ≡ Some (acts a)) (grants : granted (μ m) c (accepted cs) ≡ numbered (numbers (accepted cs) + 1)) (second : Check) (asks : checks c (accepted cs) ≡ unknown (accepted cs) a.facility ∷ second ∷ book_full (accepted cs) ∷ spent (accepted cs) ∷ []) (e : Enrolment) (old v : Option Signed) (by : EnrolledBy r a.facility e) (stands : StandsAt r a.facility a.year old) (low : 2017 ≤ a.year) (high : a.year ≤ 2036) (passes : second.0 ≡ false) (v-is : filing_at v ≡ a.leaves) where
+  pub any_acts : (ans : Result ℕ Refusal) → Acted μ r s a.facility a.year e old v ans → Lived μ m s (c ∷ cs) × (number_answer ans ≡ answer_to (μ m) c cs)
+  any_acts ans did =
+      let es = accepted cs in
+      let known = by_enrolled μ m r es L a.facility e by in
+      let done =
+      acted_lives μ later m r s a low high e by old v v-is c cs L does
+      (any_passes μ m r c cs L a.facility second asks known passes)
+      (read_stands μ m r es L a.facility e by a.year old stands) ans did
+      in
+      (done.0, done.1 ∙ sym (ap (answer_by (refusal_of c es)) grants))
+
 -- a call that acts on a place: it asks for the enrolment of the facility, whether something stands, and then for room
 pub record ActsOn (c : CallFields) (a : Act) (bars : Bool → Bool) (w : Refusal) : Type 0 where
   pub does : event_of c ≡ Some (acts a)
@@ -137,9 +153,7 @@ module _ {M : Type 0} (μ : M → Meaning) (r : Register M) {c : CallFields} {a 
       pub asked_acts : ((m : M) → Later (μ m)) → (s : Register M) → 2017 ≤ a.year → a.year ≤ 2036 → bars (is_some p) ≡ false → (v : Option Signed) → filing_at v ≡ a.leaves → (ans : Result ℕ Refusal) → Acted μ r s a.facility a.year e p v ans → LivesAnswering μ r s c (number_answer ans)
       asked_acts later s low high free v v-is ans did m cs L =
           let es = accepted cs in
-          let left = passed m cs L ∙ check_passes (second es) (book_full es ∷ spent es ∷ []) (ap bars (as_read m cs L) ∙ free) in
-          let done = acted_lives μ later m r s a low high e by p v v-is c cs L on.does left (read_stands μ m r es L a.facility e by a.year p stands) ans did in
-          (done.0, done.1 ∙ sym (ap (answer_by (refusal_of c es)) (on.grants (μ m) es)))
+          any_acts μ later m r s c cs L a on.does (on.grants (μ m) es) (second es) (on.asks es) e p v by stands low high (ap bars (as_read m cs L) ∙ free) v-is ans did
 
 -- a filing, at the place that it is for
 abbrev pub IsFor : FilingFields → Place → Type 0
