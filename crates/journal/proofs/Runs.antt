@@ -1,4 +1,4 @@
--- The words are the parts between blanks that have a byte.
+-- What one turn of the cut into words keeps, and that the words are the parts between blanks that have a byte.
 use Rattle.std.proofs.Common.{◌≡◌, ℕ, ◌+◌, ◌-◌, ◌<◌, ◌≤◌, Bool, not, true, false, cond, ◌==◌, eqb, filter, List, [], ◌∷◌, ◌++◌, length, get_or, take, drop, sym, refl, ap, ◌∙◌, append_assoc, append-nil, arith, length-drop, Bor}
 use native.Mathlib.Nat.{sub_self}
 use Rattle.std.proofs.lemmas.List.{at_drop_more, at_drop_all, take_more, get_or-drop, map_push}
@@ -52,6 +52,9 @@ one_more old new w has e = ap contents e ∙ map_push (λ (s : Bor (List ℕ)). 
 pub record Sofar (bs : List ℕ) (done : List (List ℕ)) (start i : ℕ) : Type 0 where
   pub begun : start ≤ i
   pub whole : done ++ split (between bs start i) (drop i bs) ≡ split [] bs
+
+pub moved : (bs : List ℕ) (done more : List (List ℕ)) (start begin i : ℕ) → Sofar bs done start i → more ≡ done → begin ≡ start → Sofar bs more begin i
+moved bs done more start begin i s e f = record { begun = omega (arith, s.begun); whole = rw (e, f) s.whole }
 
 module _ (bs : List ℕ) (done : List (List ℕ)) (start i : ℕ) (s : Sofar bs done start i) where
   step : i < length bs → split (between bs start i) (drop i bs) ≡ cond (blank (get_or bs i 0)) (word (between bs start i) ++ split [] (drop (i + 1) bs)) (split (between bs start i ++ get_or bs i 0 ∷ []) (drop (i + 1) bs))

@@ -1,6 +1,6 @@
 //! Numbers in decimal digits.
-ghost use Rattle.std.specs.Prelude.{◌≡◌};
-ghost use Rattle.journal.specs.Numbers.{all_digits, decimal as decimal_of};
+ghost use Rattle.std.specs.Prelude.{◌≡◌, ◌^◌, ◌≤◌, MatchOption};
+ghost use Rattle.journal.specs.Numbers.{all_digits, value as value_of, decimal as decimal_of};
 
 #[derive(Clone, Copy, Debug, PartialEq, Eq)]
 pub enum NumberFault {
@@ -16,14 +16,23 @@ fn all_digits(word: &[u8]) -> bool
     word.iter().all(u8::is_ascii_digit)
 }
 
+/// The number that digits write, or None where it is 2^64 or more.
+fn value(word: &[u8]) -> Option<u64>
+    ensures { MatchOption result (2 ^ 64 ≤ value_of word.now) (λ n. n ≡ value_of word.now) }
+{
+    // `parse` needs a text first, which is one more walk over the digits.
+    word.iter().try_fold(0u64, |number, digit| {
+        let tens = number.checked_mul(10)?;
+        tens.checked_add(u64::from(digit.saturating_sub(b'0')))
+    })
+}
+
 /// The number that a word writes in digits. Leading zeros change nothing.
 pub fn decimal(word: &[u8]) -> Result<u64, NumberFault>
     ensures { result ≡ decimal_of word.now }
 {
-    // `parse` takes a plus, and finds a number too large before it comes to a byte that is no digit.
     if word.is_empty() || !all_digits(word) {
         return Err(NumberFault::NoNumber);
     }
-    let digits = std::str::from_utf8(word).unwrap();
-    digits.parse().map_err(|_| NumberFault::TooLarge)
+    value(word).ok_or(NumberFault::TooLarge)
 }
