@@ -32,7 +32,8 @@ fn add<'a>(words: &mut Vec<&'a [u8]>, bytes: &'a [u8]) -> Result<(), AllocError>
 fn split<'a>(heap: Global, bytes: &'a [u8]) -> Result<Vec<&'a [u8]>, AllocError>
     ensures { IfOk result (λ v. contents v.items ≡ split_of [] bytes.now) }
 {
-    // A loop: a chain of `split`, `filter` and `collect` makes an empty part of each blank, and took half as long again and more on lines of blanks.
+    // A loop: a chain of `split`, `filter` and `collect` makes an empty part of each blank, and took half as long again
+    // and more on lines of blanks.
     let mut words = Vec::new(heap);
     let mut start = 0;
     for i in 0..bytes.len() {
