@@ -108,3 +108,11 @@ unit_from_is (suc fuel) n d u r enough =
 pub unit_is : (n d u : ℕ) → n ≤ most_numerator → 0 < d → u ≡ unit_of n d → IsUnit n d u
 unfolding unit_of
 unit_is n d u small pos is = subst (IsUnit n d) (sym is) (unit_from_is 20 n d 1 (reached_one n d) (omega arith))
+
+-- a power of ten whose exponent is two below the logarithm of the whole part is the unit
+pub unit_made : (n d w e u : ℕ) (o : Option ℕ) → IfNone o (w ≡ 0) → IfSome o (λ p. 10 ^ p ≤ w) → IfSome o (λ p. w < 10 * 10 ^ p) → w ≡ n / d → e ≡ unwrap_or o 0 - 2 → u ≡ 10 ^ e → n ≤ most_numerator → 0 < d → u ≡ unit_of n d
+unit_made n d w e u o none below above whole two is small pos =
+    let tens : IsUnit (n / d) 1 (10 ^ (unwrap_or o 0 - 2)) = subst (λ x. IsUnit x 1 (10 ^ (unwrap_or o 0 - 2))) whole (unit_of_tens w o none below above) in
+    is
+    ∙ ap (λ x. 10 ^ x) two
+    ∙ unit_only n d _ _ (unit_of_whole n d _ pos tens) (unit_is n d _ small pos refl)

@@ -1,9 +1,7 @@
-use Rattle.std.proofs.Common.{refl, arith}
-use Rattle.quantity.proofs.ThirdFigure.{unit_is, unit_only, unit_of_whole, unit_of_tens}
+use Rattle.std.proofs.Common.{arith}
+use Rattle.quantity.proofs.ThirdFigure.{unit_made}
 use Rattle.quantity.proofs.rounding.unit_of.Goals as goal
 
+-- by what the numbers are, and not by the steps that made them: a wrong exponent is refused as one
 pub returns : goal.returns
-returns c =
-    let tens = unit_of_tens _ _ c.checked_ilog10.ensures.none c.checked_ilog10.ensures.power_le c.checked_ilog10.ensures.next_power_gt in
-    let unit = unit_of_whole _ _ _ (omega arith) tens in
-    rw (c.pow.ensures, c.saturating_sub.ensures, c.unwrap_or-tens.ensures) (unit_only _ _ _ _ unit (unit_is _ _ _ (omega arith) (omega arith) refl))
+returns c = unit_made c.args.q.num c.args.q.den _ _ _ _ c.checked_ilog10.ensures.none c.checked_ilog10.ensures.power_le c.checked_ilog10.ensures.next_power_gt (omega arith) (omega arith) c.pow.ensures (omega arith) (omega arith)
