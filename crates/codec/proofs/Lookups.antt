@@ -1,5 +1,5 @@
 -- The search for a field by its code.
-use Rattle.std.proofs.Common.{◌≡◌, ℕ, zero, suc, ◌+◌, ◌*◌, ◌<◌, ◌≤◌, not, cond, nat_lt, eqb, List, [], ◌∷◌, length, get_or, take, drop, Some, None, Option, position, sym, refl, ap, ◌∙◌, subst, inl, inr, arith}
+use Rattle.std.proofs.Common.{◌≡◌, ℕ, zero, suc, ◌+◌, ◌*◌, ◌<◌, ◌≤◌, nat_lt, eqb, List, [], ◌∷◌, length, get_or, take, drop, Some, None, Option, position, sym, refl, ap, ◌∙◌, subst, inl, inr, arith}
 use Rattle.std.specs.Simd.{first_chunks}
 use Rattle.std.specs.List.{find, zip, position_or_len}
 use Rattle.std.proofs.lemmas.List.{drop_more, drop_all, drop-drop}

@@ -1,14 +1,21 @@
 //! Any step, and a whole list of them, from record bytes to assessment.
 ghost use Rattle.std.specs.Prelude.{◌≡◌, [], IfOk};
-ghost use Rattle.engine.specs.Engine.{step_fields, step_answered, Steps, StepKept, EngineLived, engine_method, RanSteps};
+ghost use Rattle.engine.specs.Engine.{step_fields, step_answered, record_answered, Steps, StepKept, EngineLived, engine_method, RanSteps};
 
 use crate::engine::Engine;
 use crate::faults::EngineFault;
-use crate::steps::{Step, StepAnswer};
+use crate::steps::{Recorded, Step, StepAnswer};
 use limit::joined::Joined;
 use limit::methods::{Industrial, Station};
 use register::table::Register;
 use std::alloc::{AllocError, Global};
+
+/// The answer to a step that files or amends by a record.
+fn recorded(res: Result<Recorded, EngineFault>) -> Result<StepAnswer, EngineFault>
+    ensures { step_answered result ≡ record_answered res }
+{
+    res.map(StepAnswer::Recorded)
+}
 
 impl Engine {
     /// Performs a step. A refusal, of the reader or of the register, changes nothing.
@@ -18,8 +25,8 @@ impl Engine {
     {
         match step {
             Step::Call(call) => Ok(StepAnswer::Call(self.register.perform(call)?)),
-            Step::FileRecord(bytes) => self.file_record(bytes).map(StepAnswer::Recorded),
-            Step::AmendRecord(bytes) => self.amend_record(bytes).map(StepAnswer::Recorded),
+            Step::FileRecord(bytes) => recorded(self.file_record(bytes)),
+            Step::AmendRecord(bytes) => recorded(self.amend_record(bytes)),
         }
     }
 

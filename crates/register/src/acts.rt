@@ -1,5 +1,5 @@
 //! The calls that change a register.
-ghost use Rattle.std.specs.Prelude.{◌≡◌, [], IfOk, OnErr};
+ghost use Rattle.std.specs.Prelude.{◌≡◌, [], is_some, IfOk, OnErr};
 ghost use Rattle.filing.specs.Views.{filed};
 ghost use Rattle.register.specs.Answers.{number_answer, enrol_answer};
 ghost use Rattle.register.specs.Calls.{enrol as enrol_call, file as file_call, amend as amend_call, withdraw as withdraw_call, take_back, close as close_call};
@@ -16,6 +16,13 @@ use filing::signed::Signed;
 use limit::method::LimitMethod;
 use std::alloc::{AllocError, Global};
 
+/// Whether a facility is enrolled already.
+fn is_taken(enrolment: Option<Enrolment>) -> bool
+    ensures { result ≡ is_some enrolment }
+{
+    enrolment.is_some()
+}
+
 // `refused` stands in five calls: it is over two states, so no invariant and no ghost field can hold it.
 impl<M: LimitMethod> Register<M> {
     /// Enrols a facility; an enrolment stays.
@@ -25,7 +32,7 @@ impl<M: LimitMethod> Register<M> {
     {
         let enrolment = Enrolment::try_from(fields)?;
         let i = index_from(1, u64::from(enrolment.facility));
-        if self.plants[i].enrolment.is_some() {
+        if is_taken(self.plants[i].enrolment) {
             return Err(Refusal::Enrolled);
         }
         self.plants[i].enrolment = Some(enrolment);

@@ -1,8 +1,8 @@
-use Rattle.std.proofs.Common.{◌≡◌, Ok, Err, refl, ap, rules}
+use Rattle.std.proofs.Common.{Ok, Err, refl, ap}
 use Rattle.std.proofs.lemmas.Result.{err_from_is_err_and}
 use Rattle.register.specs.Calls.{call_fields}
 use Rattle.register.specs.Performing.{answered}
-use Rattle.engine.specs.Engine.{step_fields, step_answered, record_answered}
+use Rattle.engine.specs.Engine.{step_fields, record_answered}
 use Rattle.engine.specs.Steps.{said, file_record, amend_record, answers}
 use Rattle.engine.proofs.Recorded.{engine_of}
 use Rattle.engine.proofs.Stepping.{stepped, call_steps}
@@ -26,10 +26,8 @@ returns-in_ok-perform-in-Call-clause-laws c =
 
 pub returns-in-FileRecord-clause-laws : goal.returns-in-FileRecord-clause-laws
 returns-in-FileRecord-clause-laws c =
-    let same : step_answered c.map.result ≡ record_answered c.file_record.result = search rules in
-    stepped c.args.self.now c.file_record.new.self (file_record c.in-FileRecord.bytes.now) _ _ (record_answered c.file_record.result) (ap step_fields c.in-FileRecord.is) same c.file_record.ensures.laws
+    stepped c.args.self.now c.file_record.new.self (file_record c.in-FileRecord.bytes.now) _ _ (record_answered c.file_record.result) (ap step_fields c.in-FileRecord.is) c.recorded.ensures c.file_record.ensures.laws
 
 pub returns-in-AmendRecord-clause-laws : goal.returns-in-AmendRecord-clause-laws
 returns-in-AmendRecord-clause-laws c =
-    let same : step_answered c.map-in-AmendRecord.result ≡ record_answered c.amend_record.result = search rules in
-    stepped c.args.self.now c.amend_record.new.self (amend_record c.in-AmendRecord.bytes.now) _ _ (record_answered c.amend_record.result) (ap step_fields c.in-AmendRecord.is) same c.amend_record.ensures.laws
+    stepped c.args.self.now c.amend_record.new.self (amend_record c.in-AmendRecord.bytes.now) _ _ (record_answered c.amend_record.result) (ap step_fields c.in-AmendRecord.is) c.recorded-in-AmendRecord.ensures c.amend_record.ensures.laws

@@ -17,7 +17,7 @@ returns-clause-lives g c =
     let i = e.facility - 1 in
     let p = c.index-self-i-2.result in
     let within : e.facility - 1 < length r.plants = search rules in
-    let read = sym c.is_some.ensures ∙ c.if-is_some.false in
+    let read = sym c.is_taken.ensures ∙ c.if-is_taken.false in
     let here = rw (c.index_from-i.ensures, c.from.ensures) at read in
     let gone = sym (ap (λ (d : Plant). is_some d.enrolment) (get_or_default r.plants i c.index-self-i.result p within)) ∙ here in
     rw (c.index_from-i.ensures, c.from.ensures)
