@@ -1,5 +1,5 @@
 -- What one turn over digits keeps.
-use Rattle.std.proofs.Common.{◌≡◌, ℕ, ◌+◌, ◌-◌, ◌*◌, ◌<◌, ◌≤◌, true, false, ◌&&◌, List, [], ◌∷◌, length, get_or, drop, fold, sym, ◌∙◌, arith}
+use Rattle.std.proofs.Common.{◌≡◌, ℕ, zero, suc, ◌+◌, ◌-◌, ◌*◌, ◌<◌, ◌≤◌, true, false, ◌&&◌, List, [], ◌∷◌, length, get_or, drop, fold, sym, ◌∙◌, arith}
 use Rattle.std.proofs.lemmas.List.{at_drop_more, at_drop_all}
 use Rattle.std.proofs.lemmas.Bool.{and_parts, and_left, leb-true}
 use Rattle.journal.specs.Numbers.{digit, all_digits, then_digit, value}
@@ -17,6 +17,11 @@ value_more n bs i h = at_drop_more (value_after n) bs i 0 h
 at_least : (n : ℕ) (bs : List ℕ) → n ≤ value_after n bs
 at_least n [] = omega arith
 at_least n (b ∷ bs) = omega (arith, at_least (then_digit n b) bs)
+
+pub low_at : (w : List ℕ) (k d : ℕ) → all_digits w ≡ true → k < length w → 48 ≤ get_or w k d
+low_at [] k d t h = absurd (omega arith)
+low_at (b ∷ bs) zero d t h = leb-true _ _ (and_parts _ _ (and_parts _ _ t).0).0
+low_at (b ∷ bs) (suc k) d t h = low_at bs k d (and_parts _ _ t).1 (omega arith)
 
 module _ (bs : List ℕ) (i : ℕ) (h : i < length bs) where
   pub no_digit : all_digits (drop i bs) ≡ all_digits bs → digit (get_or bs i 0) ≡ false → false ≡ all_digits bs

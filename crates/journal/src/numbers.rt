@@ -1,5 +1,5 @@
 //! Numbers in decimal digits.
-ghost use Rattle.std.specs.Prelude.{◌≡◌, ◌^◌, ◌≤◌, MatchOption};
+ghost use Rattle.std.specs.Prelude.{◌≡◌, ◌^◌, ◌≤◌, true, MatchOption};
 ghost use Rattle.journal.specs.Numbers.{all_digits, value as value_of, decimal as decimal_of};
 
 #[derive(Clone, Copy, Debug, PartialEq, Eq)]
@@ -18,12 +18,13 @@ fn all_digits(word: &[u8]) -> bool
 
 /// The number that digits write, or None where it is 2^64 or more.
 fn value(word: &[u8]) -> Option<u64>
+    requires { all_digits word.now ≡ true }
     ensures { MatchOption result (2 ^ 64 ≤ value_of word.now) (λ n. n ≡ value_of word.now) }
 {
     // `parse` needs a text first, which is one more walk over the digits.
     word.iter().try_fold(0u64, |number, digit| {
         let tens = number.checked_mul(10)?;
-        tens.checked_add(u64::from(digit.saturating_sub(b'0')))
+        tens.checked_add(u64::from(*digit - b'0'))
     })
 }
 
