@@ -34,7 +34,7 @@ fn number(bytes: &[u8; FIELD]) -> u64
 
 impl Values<'_> {
     /// The field with a code, and 0 where the codes lack it.
-    // By the place of the code: a `zip` of the codes with their bytes takes half as long again to read a record.
+    // By the place of the code: by a `zip` of the codes with their bytes, reading a record took a quarter more instructions.
     fn field(&self, code: u8) -> u64
         ensures { result ≡ field_of self.now.codes.list.now self.now.bytes.now code }
     {
