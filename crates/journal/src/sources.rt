@@ -46,13 +46,11 @@ pub fn unhexed(heap: Global, word: &[u8]) -> Result<Option<Vec<u8>>, AllocError>
     let Some(digits) = word.strip_prefix(b"0x") else {
         return Ok(None);
     };
-    // Only where memory lacks are the digits seen first, since that is one more walk over them: a word that writes no
-    // bytes is answered so however little memory there is.
-    let mut bytes = match vec![in heap; 0u8; digits.len() / 2] {
-        Ok(bytes) => bytes,
-        Err(error) if are_pairs(digits) => return Err(error),
-        Err(_) => return Ok(None),
-    };
+    // Before memory is asked for, so that a word that writes no bytes needs none.
+    if !are_pairs(digits) {
+        return Ok(None);
+    }
+    let mut bytes = vec![in heap; 0u8; digits.len() / 2]?;
     let decoded = hex::decode_to_slice(digits, &mut bytes).ok();
     Ok(decoded.map(|()| bytes))
 }
